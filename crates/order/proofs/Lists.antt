@@ -1,0 +1,165 @@
+-- Lists with a decidable membership: the members of one list that another does not have.
+use mathlib.Core.Path.{_≡_, refl, sym, _∙_, ap, subst}
+use mathlib.Core.Logic.{_≢_, _⊎_, inl, inr, ⊎-elim}
+use mathlib.Core.HLevel.{⊥-prop}
+use mathlib.Core.List.{
+  List,
+  [],
+  _∷_,
+  _++_,
+  List·Memᴰ as Mem,
+  List·Memᴰ·head as here,
+  List·Memᴰ·tail as there,
+  List·Memᴰ·not-nil as not-nil,
+  List·Memᴰ·cases-cons as mem-cases,
+  List·Memᴰ·eq-of-singleton as eq-of-singleton,
+  List·Memᴰ·append-cases as append-cases,
+  Memᴰ·cast,
+  List·Nodup,
+  Pairwise·cons,
+  Sublistᴰ,
+  Sublistᴰ·slnil,
+  Sublistᴰ·cons,
+  Sublistᴰ·cons-cons,
+}
+use Prim.Native.Nat.{ℕ, suc, _≤_, _<_, zero-le, suc-le-suc}
+use native.Mathlib.Omega.{arith}
+use lib.ListN.{length}
+use Rattle.order.specs.Order.{All}
+
+module _ {A : Type 0} where
+  -- a list that starts with `a` has no element twice if the rest has none and does not hold `a`
+  pub nodup-cons : {a : A} {l : List A} → (Mem a l → ⊥) → List·Nodup l → List·Nodup (a ∷ l)
+  nodup-cons h p = Pairwise·cons (λ b m e. ∥∥₁-rec ⊥-prop (λ d. h (Memᴰ·cast e d)) m) p
+
+  pub nodup-head : {a : A} {l : List A} → List·Nodup (a ∷ l) → Mem a l → ⊥
+  nodup-head {a} (Pairwise·cons h p) m = h a ∣ m ∣₁ refl
+
+  pub nodup-tail : {a : A} {l : List A} → List·Nodup (a ∷ l) → List·Nodup l
+  nodup-tail (Pairwise·cons h p) = p
+
+  pub nodup-append : (l m : List A) → List·Nodup l → List·Nodup m → All (λ x. Mem x m → ⊥) l → List·Nodup (l ++ m)
+  nodup-append [] m p q h = q
+  nodup-append (a ∷ l) m p q h =
+      nodup-cons (λ n. ⊎-elim (nodup-head p) (h a (here refl)) (append-cases l n))
+      (nodup-append l m (nodup-tail p) q (λ x n. h x (there n)))
+
+module _ {A : Type 0} (dec : Discrete A) where
+  -- whether `x` is a member of `l`
+  pub decMem : (x : A) (l : List A) → Dec (Mem x l)
+  decMem x [] = no not-nil
+  decMem x (y ∷ l) = go (dec x y) (decMem x l)
+    where
+      go : Dec (x ≡ y) → Dec (Mem x l) → Dec (Mem x (y ∷ l))
+      go (yes e) d = yes (here e)
+      go (no ne) (yes m) = yes (there m)
+      go (no ne) (no nm) = no (λ m. ⊎-elim ne nm (mem-cases m))
+
+  -- a member of `s` that is in `c`, or none
+  pub met : (s c : List A) → ((x : A) × Mem x s × Mem x c) ⊎ All (λ x. Mem x c → ⊥) s
+  met [] c = inr (λ x m. absurd (not-nil m))
+  met (a ∷ s) c = go (decMem a c) (met s c)
+    where
+      go : Dec (Mem a c) → ((x : A) × Mem x s × Mem x c) ⊎ All (λ x. Mem x c → ⊥) s
+          → ((x : A) × Mem x (a ∷ s) × Mem x c) ⊎ All (λ x. Mem x c → ⊥) (a ∷ s)
+      go (yes ac) o = inl (a, here refl, ac)
+      go (no na) (inl t) = inl (t .0, there (t .1), t .2)
+      go (no na) (inr h) = inr (λ x m. ⊎-elim (λ e xc. na (Memᴰ·cast (sym e) xc)) (h x) (mem-cases m))
+
+-- `x` in front of `l` unless `P` holds
+unless : {A P : Type 0} → Dec P → A → List A → List A
+unless (yes p) x l = l
+unless (no np) x l = x ∷ l
+
+module _ {A : Type 0} (dec : Discrete A) where
+  -- the members of `X` that are not in `D`
+  pub without : List A → List A → List A
+  without D [] = []
+  without D (x ∷ X) = unless (decMem dec x D) x (without D X)
+
+  pub mem-without : {x : A} (D X : List A) → Mem x X → (Mem x D → ⊥) → Mem x (without D X)
+  unfolding without unless
+  mem-without D [] m nd = absurd (not-nil m)
+  mem-without {x} D (y ∷ X) m nd = go (λ r. mem-without D X r nd) (decMem dec y D) (mem-cases m)
+    where
+      go : (Mem x X → Mem x (without D X)) → (d : Dec (Mem y D)) → (x ≡ y) ⊎ Mem x X → Mem x (unless d y (without D X))
+      go rest (yes yd) (inl e) = absurd (nd (Memᴰ·cast e yd))
+      go rest (yes yd) (inr r) = rest r
+      go rest (no ny) (inl e) = here e
+      go rest (no ny) (inr r) = there (rest r)
+
+  pub without-mem : {x : A} (D X : List A) → Mem x (without D X) → Mem x X × (Mem x D → ⊥)
+  unfolding without unless
+  without-mem D [] m = absurd (not-nil m)
+  without-mem {x} D (y ∷ X) m = go (λ r. without-mem D X r) (decMem dec y D) m
+    where
+      go : (Mem x (without D X) → Mem x X × (Mem x D → ⊥)) → (d : Dec (Mem y D)) → Mem x (unless d y (without D X))
+          → Mem x (y ∷ X) × (Mem x D → ⊥)
+      go rest (yes yd) r = (there (rest r .0), rest r .1)
+      go rest (no ny) r =
+          ⊎-elim (λ e. (here e, λ xd. ny (Memᴰ·cast (sym e) xd))) (λ q. (there (rest q .0), rest q .1)) (mem-cases r)
+
+  pub without-sublist : (D X : List A) → Sublistᴰ (without D X) X
+  unfolding without unless
+  without-sublist D [] = Sublistᴰ·slnil
+  without-sublist D (y ∷ X) = go (decMem dec y D) (without-sublist D X)
+    where
+      go : (d : Dec (Mem y D)) → Sublistᴰ (without D X) X → Sublistᴰ (unless d y (without D X)) (y ∷ X)
+      go (yes yd) h = Sublistᴰ·cons h
+      go (no ny) h = Sublistᴰ·cons-cons refl h
+
+  pub length-without : (D X : List A) → length (without D X) ≤ length X
+  unfolding without unless
+  length-without D [] = zero-le
+  length-without D (y ∷ X) = go (decMem dec y D) (length-without D X)
+    where
+      go : (d : Dec (Mem y D)) → length (without D X) ≤ length X → length (unless d y (without D X)) ≤ suc (length X)
+      go (yes yd) h = omega arith
+      go (no ny) h = omega arith
+
+  -- what takes out a member leaves fewer
+  pub length-without-lt : {x : A} (D X : List A) → Mem x X → Mem x D → length (without D X) < length X
+  unfolding without unless
+  length-without-lt D [] m xd = absurd (not-nil m)
+  length-without-lt {x} D (y ∷ X) m xd = go (length-without D X) (λ r. length-without-lt D X r xd) (decMem dec y D) (mem-cases m)
+    where
+      go : length (without D X) ≤ length X → (Mem x X → length (without D X) < length X) → (d : Dec (Mem y D)) → (x ≡ y) ⊎ Mem x X
+          → length (unless d y (without D X)) < suc (length X)
+      go le rest (yes yd) c = omega arith
+      go le rest (no ny) (inl e) = absurd (ny (Memᴰ·cast (sym e) xd))
+      go le rest (no ny) (inr r) = let h = rest r in omega arith
+
+  -- where nothing is to be taken out, all stays
+  pub without-none : (D X : List A) → All (λ x. Mem x D → ⊥) X → without D X ≡ X
+  unfolding without unless
+  without-none D [] h = refl
+  without-none D (y ∷ X) h = go (decMem dec y D) (without-none D X (λ x m. h x (there m)))
+    where
+      go : (d : Dec (Mem y D)) → without D X ≡ X → unless d y (without D X) ≡ y ∷ X
+      go (yes yd) e = absurd (h y (here refl) yd)
+      go (no ny) e = ap (λ (l : List A). y ∷ l) e
+
+  -- what takes out at most one member leaves at most one fewer
+  pub length-without-one : (D X : List A) → List·Nodup X → ((x y : A) → Mem x X → Mem y X → Mem x D → Mem y D → x ≡ y)
+      → length X ≤ suc (length (without D X))
+  unfolding without unless
+  length-without-one D [] p h = zero-le
+  length-without-one D (y ∷ X) p h =
+      go (decMem dec y D) (length-without-one D X (nodup-tail p) (λ a b m n. h a b (there m) (there n)))
+    where
+      go : (d : Dec (Mem y D)) → length X ≤ suc (length (without D X)) → suc (length X) ≤ suc (length (unless d y (without D X)))
+      go (no ny) rest = omega arith
+      go (yes yd) rest =
+          let others : All (λ x. Mem x D → ⊥) X = λ x m xd. nodup-head p (Memᴰ·cast (h y x (here refl) (there m) yd xd) m) in
+          let e : length (without D X) ≡ length X = ap length (without-none D X others) in
+          omega arith
+
+  -- different members of `X` are at most as many as `X` has
+  pub nodup-le : (l X : List A) → List·Nodup l → All (λ x. Mem x X) l → length l ≤ length X
+  nodup-le [] X p h = zero-le
+  nodup-le (a ∷ l) X p h =
+      let less : length (without (a ∷ []) X) < length X = length-without-lt (a ∷ []) X (h a (here refl)) (here refl) in
+      let rest : length l ≤ length (without (a ∷ []) X) =
+      nodup-le l (without (a ∷ []) X) (nodup-tail p)
+      (λ x m. mem-without (a ∷ []) X (h x (there m)) (λ q. nodup-head p (Memᴰ·cast (sym (eq-of-singleton q)) m))) in
+      omega arith

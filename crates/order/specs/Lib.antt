@@ -1,0 +1,2 @@
+-- Chains and antichains over any type.
+pub mod Order

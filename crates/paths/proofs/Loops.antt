@@ -1,0 +1,129 @@
+-- Loops: a graph is acyclic exactly when it has none. A walk that comes back to its start holds a loop, from an episode to its next visit.
+use mathlib.Core.Path.{_≡_, refl, sym, subst}
+use mathlib.Core.Logic.{_⊎_, inl, inr, ⊎-elim, _↔_}
+use mathlib.Core.List.{
+  List,
+  [],
+  _∷_,
+  _++_,
+  List·Memᴰ as Mem,
+  List·Memᴰ·head as here,
+  List·Memᴰ·tail as there,
+  List·Memᴰ·not-nil as not-nil,
+  List·Memᴰ·cases-cons as mem-cases,
+  Memᴰ·cast,
+  Memᴰ·append-right,
+  List·Nodup,
+  Pairwise·nil,
+}
+use Prim.Native.Nat.{ℕ, zero, suc, _<_}
+use native.Mathlib.Decide.{ℕ-discrete}
+use native.Mathlib.Omega.{arith}
+use Rattle.order.specs.Order.{All, Chain, single, more}
+use Rattle.order.proofs.Lists.{decMem, nodup-cons, nodup-head, nodup-tail}
+use Rattle.paths.specs.Graph.{Graph, Episode, Link, EndsBelow, Way, one, step, Acyclic, Loop}
+use Rattle.paths.proofs.Ways.{way-first, decWay}
+
+-- the part of a walk from `a` on before it comes to `x`, behind `a` a part of `t`
+record Before {A : Type 0} (R : A → A → Type 0) (a x : A) (t : List A) : Type 0 where
+  part : List A
+  walk : Chain R ((a ∷ part) ++ x ∷ [])
+  within : All (λ y. Mem y t) part
+  once : List·Nodup t → List·Nodup part
+  new : List·Nodup t → Mem x part → ⊥
+
+before : {A : Type 0} {R : A → A → Type 0} {a x : A} {t : List A} → Chain R (a ∷ t) → Mem x t → Before R a x t
+before single m = absurd (not-nil m)
+before {A} {R} {a} {x} (more {b = b} {l = t} r c) m = go (before c) (mem-cases m)
+  where
+    go : (Mem x t → Before R b x t) → (x ≡ b) ⊎ Mem x t → Before R a x (b ∷ t)
+    go rest (inl e) =
+        record {
+          part = [];
+          walk = more (subst (λ (y : A). R a y) (sym e) r) single;
+          within = λ y n. absurd (not-nil n);
+          once = λ p. Pairwise·nil;
+          new = λ p. not-nil;
+        }
+    go rest (inr n) = further (rest n)
+      where
+        further : Before R b x t → Before R a x (b ∷ t)
+        further q =
+            record {
+              part = b ∷ q .part;
+              walk = more r (q .walk);
+              within = λ y o. ⊎-elim here (λ z. there (q .within y z)) (mem-cases o);
+              once = λ p. nodup-cons (λ o. nodup-head p (q .within b o)) (q .once (nodup-tail p));
+              new = λ p o. ⊎-elim (λ e. nodup-head p (Memᴰ·cast (sym e) n)) (q .new (nodup-tail p)) (mem-cases o);
+            }
+
+module _ {g : Graph} where
+  -- a walk leads from its first episode to its last
+  pub walk-way : (a : ℕ) (p : List ℕ) (x : ℕ) → Chain (Link g) (a ∷ p ++ x ∷ []) → Way g a x
+  walk-way a [] x (more l c) = one l
+  walk-way a (b ∷ p) x (more l c) = step l (walk-way b p x c)
+
+  way-walk : {a b : ℕ} → Way g a b → (p : List ℕ) × Chain (Link g) (a ∷ p ++ b ∷ [])
+  way-walk (one l) = ([], more l single)
+  way-walk (step {b = b} l w) = let r = way-walk w in (b ∷ r .0, more l (r .1))
+
+  -- a loop leads from its first episode back to it
+  pub loop-way : {c : List ℕ} (o : Loop g c) → Way g (o .first) (o .first)
+  loop-way o = walk-way (o .first) (o .others) (o .first) (subst (λ (l : List ℕ). Chain (Link g) (l ++ o .first ∷ [])) (o .parts) (o .closed))
+
+  module _ (ends : EndsBelow g) where
+    -- what a link leaves is an episode
+    walk-episodes : (a : ℕ) (p : List ℕ) (x : ℕ) → Chain (Link g) (a ∷ p ++ x ∷ []) → All (Episode g) (a ∷ p)
+    walk-episodes a [] x (more l c) v m = ⊎-elim (λ e. subst (λ (y : ℕ). Episode g y) (sym e) (ends a x l .0)) (λ n. absurd (not-nil n)) (mem-cases m)
+    walk-episodes a (b ∷ p) x (more l c) v m = ⊎-elim (λ e. subst (λ (y : ℕ). Episode g y) (sym e) (ends a b l .0)) (walk-episodes b p x c v) (mem-cases m)
+
+    -- the episodes of a walk are all different, or some of them are a loop
+    walk-loop : {l : List ℕ} → Chain (Link g) l → List·Nodup l ⊎ ((c : List ℕ) × Loop g c)
+    walk-loop single = inl (nodup-cons not-nil Pairwise·nil)
+    walk-loop (more {a = a} {b = b} {l = t} k c) = go (walk-loop c) (decMem ℕ-discrete a (b ∷ t))
+      where
+        go : List·Nodup (b ∷ t) ⊎ ((c : List ℕ) × Loop g c) → Dec (Mem a (b ∷ t)) → List·Nodup (a ∷ b ∷ t) ⊎ ((c : List ℕ) × Loop g c)
+        go (inr o) d = inr o
+        go (inl p) (no nm) = inl (nodup-cons nm p)
+        go (inl p) (yes m) =
+            let q = before (more k c) m in
+            inr (
+              a ∷ q .part,
+              record {
+                first = a;
+                others = q .part;
+                parts = refl;
+                episodes = walk-episodes a (q .part) a (q .walk);
+                once = nodup-cons (q .new p) (q .once p);
+                closed = q .walk;
+              },
+            )
+
+    -- from a way from `v` to `v` a loop can be had
+    pub way-loop : {v : ℕ} → Way g v v → (c : List ℕ) × Loop g c
+    way-loop {v} w = go (way-walk w)
+      where
+        go : (p : List ℕ) × Chain (Link g) (v ∷ p ++ v ∷ []) → (c : List ℕ) × Loop g c
+        go (p, c) = ⊎-elim (λ d. absurd (nodup-head d (Memᴰ·append-right p (here refl)))) (λ o. o) (walk-loop c)
+
+    pub acyclic-no-loop : Acyclic g ↔ ((c : List ℕ) → Loop g c → ⊥)
+    acyclic-no-loop = (λ acyclic c o. acyclic (o .first) (loop-way o), λ none v w. let o = way-loop w in none (o .0) (o .1))
+
+    -- no episode below `k` has a way to itself, or there is a loop
+    below-loop : (k : ℕ) → ((v : ℕ) → v < k → Way g v v → ⊥) ⊎ ((c : List ℕ) × Loop g c)
+    below-loop zero = inl (λ v h. let none : ⊥ = omega arith in absurd none)
+    below-loop (suc k) = go (below-loop k) (decWay g ends k k)
+      where
+        go : ((v : ℕ) → v < k → Way g v v → ⊥) ⊎ ((c : List ℕ) × Loop g c) → Dec (Way g k k)
+            → ((v : ℕ) → v < suc k → Way g v v → ⊥) ⊎ ((c : List ℕ) × Loop g c)
+        go (inr o) d = inr o
+        go (inl h) (yes w) = inr (way-loop w)
+        go (inl h) (no nw) = inl (λ v lt w. last v lt w (ℕ-discrete v k))
+          where
+            last : (v : ℕ) → v < suc k → Way g v v → Dec (v ≡ k) → ⊥
+            last v lt w (yes e) = nw (subst (λ (x : ℕ). Way g x x) e w)
+            last v lt w (no ne) = h v (omega arith) w
+
+    -- a graph is acyclic or has a loop
+    pub acyclic-or-loop : Acyclic g ⊎ ((c : List ℕ) × Loop g c)
+    acyclic-or-loop = ⊎-elim (λ h. inl (λ v w. h v (way-first ends w) w)) inr (below-loop (g .n))

@@ -1,0 +1,95 @@
+-- The numbers below n, as a list: lists of different numbers below n have at most n members, and rising lists with the same members are equal.
+use mathlib.Core.Path.{_≡_, refl, sym, ap, ap₂}
+use mathlib.Core.Logic.{_⊎_, inl, inr, ⊎-elim}
+use mathlib.Core.List.{
+  List,
+  [],
+  _∷_,
+  List·Memᴰ as Mem,
+  List·Memᴰ·head as here,
+  List·Memᴰ·tail as there,
+  List·Memᴰ·not-nil as not-nil,
+  List·Memᴰ·cases-cons as mem-cases,
+  List·Nodup,
+  IsChain·nil,
+  IsChain·singleton,
+  IsChain·cons-cons,
+}
+use Prim.Native.Nat.{ℕ, zero, suc, _≤_, _<_}
+use native.Mathlib.Decide.{ℕ-discrete}
+use native.Mathlib.Omega.{arith}
+use lib.ListN.{length}
+use Rattle.order.specs.Order.{All}
+use Rattle.order.proofs.Lists.{nodup-le}
+use Rattle.paths.specs.Graph.{Rising}
+
+-- the numbers below `n`, the largest first
+pub below : ℕ → List ℕ
+below zero = []
+below (suc n) = n ∷ below n
+
+pub below-lt : {v : ℕ} (n : ℕ) → Mem v (below n) → v < n
+unfolding below
+below-lt zero m = absurd (not-nil m)
+below-lt {v} (suc n) m = ⊎-elim (λ (e : v ≡ n). let h : v < suc n = omega arith in h) (λ r. let h = below-lt n r in let k : v < suc n = omega arith in k) (mem-cases m)
+
+pub lt-below : {v : ℕ} (n : ℕ) → v < n → Mem v (below n)
+unfolding below
+lt-below zero h = let none : ⊥ = omega arith in absurd none
+lt-below {v} (suc n) h = go (lt-below n) (ℕ-discrete v n)
+  where
+    go : (v < n → Mem v (below n)) → Dec (v ≡ n) → Mem v (n ∷ below n)
+    go rest (yes e) = here e
+    go rest (no ne) = there (rest (omega arith))
+
+pub length-below : (n : ℕ) → length (below n) ≡ n
+unfolding below
+length-below zero = refl
+length-below (suc n) = ap suc (length-below n)
+
+-- different numbers below `n` are at most `n`
+pub nodup-below : (n : ℕ) (l : List ℕ) → List·Nodup l → All (λ v. v < n) l → length l ≤ n
+nodup-below n l p h =
+    let le : length l ≤ length (below n) = nodup-le ℕ-discrete l (below n) p (λ v m. lt-below n (h v m)) in
+    let e : length (below n) ≡ n = length-below n in
+    omega arith
+
+-- the first of a rising list is below the others
+pub rising-first : {a x : ℕ} {s : List ℕ} → Rising (a ∷ s) → Mem x s → a < x
+rising-first (IsChain·singleton _) m = absurd (not-nil m)
+rising-first {a} {x} (IsChain·cons-cons {b = b} {l = l} h r) m = go (rising-first r) (mem-cases m)
+  where
+    go : (Mem x l → b < x) → (x ≡ b) ⊎ Mem x l → a < x
+    go rest (inl e) = omega arith
+    go rest (inr n) = let k = rest n in omega arith
+
+rising-tail : {a : ℕ} {s : List ℕ} → Rising (a ∷ s) → Rising s
+rising-tail (IsChain·singleton _) = IsChain·nil
+rising-tail (IsChain·cons-cons h r) = r
+
+-- rising lists with the same members are equal
+pub rising-equal : (s r : List ℕ) → Rising s → Rising r → All (λ v. Mem v r) s → All (λ v. Mem v s) r → s ≡ r
+rising-equal [] [] rs rr h k = refl
+rising-equal [] (b ∷ r) rs rr h k = absurd (not-nil (k b (here refl)))
+rising-equal (a ∷ s) [] rs rr h k = absurd (not-nil (h a (here refl)))
+rising-equal (a ∷ s) (b ∷ r) rs rr h k =
+    ap₂ (λ (x : ℕ) (l : List ℕ). x ∷ l) first
+    (rising-equal s r (rising-tail rs) (rising-tail rr) (λ v m. kept first v m (rising-first rs) (h v (there m))) (λ v m. kept (sym first) v m (rising-first rr) (k v (there m))))
+  where
+    first : a ≡ b
+    first = go (mem-cases (h a (here refl))) (mem-cases (k b (here refl)))
+      where
+        go : (a ≡ b) ⊎ Mem a r → (b ≡ a) ⊎ Mem b s → a ≡ b
+        go (inl e) o = e
+        go (inr m) (inl e) = sym e
+        go (inr m) (inr n) =
+            let x : b < a = rising-first rr m in
+            let y : a < b = rising-first rs n in
+            omega arith
+
+    kept : {x y : ℕ} {l m : List ℕ} → x ≡ y → (v : ℕ) → Mem v l → (Mem v l → x < v) → Mem v (y ∷ m) → Mem v m
+    kept {x} {y} {l} {m} e v q lt o = go (mem-cases o)
+      where
+        go : (v ≡ y) ⊎ Mem v m → Mem v m
+        go (inl f) = let h : x < v = lt q in let none : ⊥ = omega arith in absurd none
+        go (inr n) = n
