@@ -30,7 +30,7 @@ use lib.ListN.{length}
 use Rattle.order.specs.Order.{All, On, StrictOrder, Chain, single, more, Antichain, Disjoint, Dilworth}
 use Rattle.order.proofs.Lists.{
   decMem,
-  met,
+  find,
   nodup-cons,
   without,
   without-mem,
@@ -204,7 +204,7 @@ module _ {A : Type 0} {R : A → A → Type 0} (dec : Discrete A) (decR : (a b :
 
   -- no head is before another: the antichain of `k` that holds `h` meets what is left of the chain of `h′`, at or behind `h′`
   heads-apart : {Y c d : List A} {k : ℕ} {h h′ : A} → Cut R dec Y k c h → Cut R dec Y k d h′ → R h h′ → ⊥
-  heads-apart {Y} {h = h} {h′ = h′} p q r = go (met dec (p .antichain) (h′ ∷ q .rest))
+  heads-apart {Y} {h = h} {h′ = h′} p q r = go (find (λ y. decMem dec y (h′ ∷ q .rest)) (p .antichain))
     where
       go : ((y : A) × Mem y (p .antichain) × Mem y (h′ ∷ q .rest)) ⊎ All (λ y. Mem y (h′ ∷ q .rest) → ⊥) (p .antichain) → ⊥
       go (inr none) =
@@ -242,17 +242,6 @@ module _ {A : Type 0} {R : A → A → Type 0} (dec : Discrete A) (decR : (a b :
           let h = without-mem dec c Y q in
           let o = d .covered x (h .0) in
           (o .0, mem-without same-list (c ∷ []) (d .chains) (o .1) (λ e. h .1 (subst (λ (l : List A). Mem x l) (eq-of-singleton e) (o .2))), o .2)
-
-  -- an element of `hs` that `a` is before, or none
-  before : (a : A) (hs : List A) → ((h : A) × Mem h hs × R a h) ⊎ All (λ h. R a h → ⊥) hs
-  before a [] = inr (λ h m. absurd (not-nil m))
-  before a (h ∷ hs) = go (decR a h) (before a hs)
-    where
-      go : Dec (R a h) → ((x : A) × Mem x hs × R a x) ⊎ All (λ x. R a x → ⊥) hs
-          → ((x : A) × Mem x (h ∷ hs) × R a x) ⊎ All (λ x. R a x → ⊥) (h ∷ hs)
-      go (yes r) o = inl (h, here refl, r)
-      go (no nr) (inl t) = inl (t .0, there (t .1), t .2)
-      go (no nr) (inr f) = inr (λ x m. ⊎-elim (λ e r. nr (subst (λ (y : A). R a y) e r)) (f x) (mem-cases m))
 
   -- one element more: `a` is minimal in `X`, and `d` is what `X` without `a` has
   module _ (X : List A) (a : A) (in-X : Mem a X) (low : All (λ y. R y a → ⊥) X) (d : Dilworth R (without dec (a ∷ []) X)) where
@@ -365,7 +354,7 @@ module _ {A : Type 0} {R : A → A → Type 0} (dec : Discrete A) (decR : (a b :
 
   -- from all smaller lists to this one
   step : (X : List A) → (a : A) × Mem a X × All (λ y. R y a → ⊥) X → ((Z : List A) → length Z < length X → Dilworth R Z) → Dilworth R X
-  step X (a, m, low) smaller = go (before a (hs .list))
+  step X (a, m, low) smaller = go (find (decR a) (hs .list))
     where
       Y : List A
       Y = without dec (a ∷ []) X

@@ -44,6 +44,17 @@ module _ {A : Type 0} where
       nodup-cons (λ n. ⊎-elim (nodup-head p) (h a (here refl)) (append-cases l n))
       (nodup-append l m (nodup-tail p) q (λ x n. h x (there n)))
 
+-- a member that has the property, or none has it
+pub find : {A : Type 0} {P : A → Type 0} → ((x : A) → Dec (P x)) → (l : List A) → ((x : A) × Mem x l × P x) ⊎ All (λ x. P x → ⊥) l
+find test [] = inr (λ x m. absurd (not-nil m))
+find {A} {P} test (a ∷ l) = go (test a) (find test l)
+  where
+    go : Dec (P a) → ((x : A) × Mem x l × P x) ⊎ All (λ x. P x → ⊥) l
+        → ((x : A) × Mem x (a ∷ l) × P x) ⊎ All (λ x. P x → ⊥) (a ∷ l)
+    go (yes p) o = inl (a, here refl, p)
+    go (no np) (inl t) = inl (t .0, there (t .1), t .2)
+    go (no np) (inr h) = inr (λ x m. ⊎-elim (λ e p. np (subst P e p)) (h x) (mem-cases m))
+
 module _ {A : Type 0} (dec : Discrete A) where
   -- whether `x` is a member of `l`
   pub decMem : (x : A) (l : List A) → Dec (Mem x l)
@@ -54,17 +65,6 @@ module _ {A : Type 0} (dec : Discrete A) where
       go (yes e) d = yes (here e)
       go (no ne) (yes m) = yes (there m)
       go (no ne) (no nm) = no (λ m. ⊎-elim ne nm (mem-cases m))
-
-  -- a member of `s` that is in `c`, or none
-  pub met : (s c : List A) → ((x : A) × Mem x s × Mem x c) ⊎ All (λ x. Mem x c → ⊥) s
-  met [] c = inr (λ x m. absurd (not-nil m))
-  met (a ∷ s) c = go (decMem a c) (met s c)
-    where
-      go : Dec (Mem a c) → ((x : A) × Mem x s × Mem x c) ⊎ All (λ x. Mem x c → ⊥) s
-          → ((x : A) × Mem x (a ∷ s) × Mem x c) ⊎ All (λ x. Mem x c → ⊥) (a ∷ s)
-      go (yes ac) o = inl (a, here refl, ac)
-      go (no na) (inl t) = inl (t .0, there (t .1), t .2)
-      go (no na) (inr h) = inr (λ x m. ⊎-elim (λ e xc. na (Memᴰ·cast (sym e) xc)) (h x) (mem-cases m))
 
 -- `x` in front of `l` unless `P` holds
 unless : {A P : Type 0} → Dec P → A → List A → List A

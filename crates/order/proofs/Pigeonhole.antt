@@ -18,7 +18,7 @@ use Prim.Native.Nat.{ℕ, suc, _≤_, _<_, zero-le}
 use native.Mathlib.Omega.{arith}
 use lib.ListN.{length}
 use Rattle.order.specs.Order.{All, On, Transitive, Chain, Antichain, HoldsOne}
-use Rattle.order.proofs.Lists.{met, without, without-mem, mem-without, length-without-lt, length-without-one}
+use Rattle.order.proofs.Lists.{find, decMem, without, without-mem, mem-without, length-without-lt, length-without-one}
 use Rattle.order.proofs.Chains.{antichain-without, on-one-chain}
 
 module _ {A : Type 0} {R : A → A → Type 0} (dec : Discrete A) (trans : Transitive R) where
@@ -43,7 +43,7 @@ module _ {A : Type 0} {R : A → A → Type 0} (dec : Discrete A) (trans : Trans
   -- where chains and members are as many, each chain holds exactly one member: without a chain that holds none, there were too few
   pub chain-holds-one : (cs : List (List A)) (s : List A) → All (Chain R) cs → Antichain R s → All (On cs) s → length s ≡ length cs
       → All (HoldsOne s) cs
-  chain-holds-one cs s chains anti on same c m = go (met dec s c)
+  chain-holds-one cs s chains anti on same c m = go (find (λ x. decMem dec x c) s)
     where
       fewer : List (List A)
       fewer = without (List-discrete dec) (c ∷ []) cs

@@ -1,4 +1,5 @@
--- Theorems on ways, covers and apart sets.
+-- Theorems on ways, covers, apart sets and loops. Theorems is the module to read first.
+pub mod Theorems
 pub mod Ways
 pub mod Threads
 pub mod Numbers
@@ -6,3 +7,5 @@ pub mod Duality
 pub mod Furthest
 pub mod Fits
 pub mod Loops
+pub mod Checker
+pub mod Worked

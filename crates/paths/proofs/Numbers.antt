@@ -24,7 +24,7 @@ use Rattle.order.proofs.Lists.{nodup-le}
 use Rattle.paths.specs.Graph.{Rising}
 
 -- the numbers below `n`, the largest first
-pub below : ℕ → List ℕ
+unfoldable pub below : ℕ → List ℕ
 below zero = []
 below (suc n) = n ∷ below n
 

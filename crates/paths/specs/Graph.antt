@@ -4,7 +4,7 @@ use mathlib.Core.Path.{_≡_}
 use mathlib.Core.Logic.{_⊎_}
 use mathlib.Core.List.{List, [], _∷_, _++_, List·Memᴰ as Mem, List·Nodup, IsChain}
 use Prim.Native.Nat.{ℕ, _+_, _≤_, _<_}
-use lib.ListN.{length, getD}
+use lib.ListN.{length}
 use Rattle.order.specs.Order.{All, On, Chain, Antichain}
 
 -- the episodes 0 to n - 1, and the links in the order in which they were read, repeats included: a directed multigraph
@@ -87,7 +87,3 @@ pub record Loop (g : Graph) (c : List ℕ) : Type 0 where
   pub episodes : All (Episode g) c
   pub once : List·Nodup c
   pub closed : Chain (Link g) (c ++ first ∷ [])
-
--- no number is less than the first: a cycle written from its smallest vertex
-abbrev pub SmallestFirst : List ℕ → Type 0
-SmallestFirst c = All (λ v. getD c 0 0 ≤ v) c

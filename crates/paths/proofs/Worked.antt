@@ -1,0 +1,157 @@
+-- The worked graphs of the scope and its four false readings, by the tests that compute.
+use mathlib.Core.Path.{_≡_, refl}
+use mathlib.Core.Bool.{Bool}
+use mathlib.Core.List.{List, [], _∷_, List·Memᴰ as Mem, List·Memᴰ·head as here, List·Memᴰ·tail as there}
+use Prim.Native.Nat.{ℕ, _≤_, _<_}
+use native.Mathlib.Omega.{arith}
+use lib.Dec.{T, ltb, ltb→lt}
+use lib.ListN.{length}
+use Rattle.order.specs.Order.{All, Chain, more}
+use Rattle.paths.specs.Graph.{Graph, Link, one, step, Thread, Apart, Cover, Smallest, Furthest, Loop}
+use Rattle.paths.proofs.Furthest.{furthest-unique}
+use Rattle.paths.proofs.Checker.{linked, linked-all, rises, rises-right, each, each-right, Settled, settledTest, settled-right, loopTest, loop-right, coverTest, cover-right}
+
+-- a graph, a smallest cover, its furthest apart set, and for each member of it the threads that show that no largest one avoids it and all before it
+pub record Row : Type 0 where
+  pub graph : Graph
+  pub threads : List (List ℕ)
+  pub apart : List ℕ
+  pub behind : List (List (List ℕ))
+
+abbrev pub graph : ℕ → List (ℕ × ℕ) → Graph
+graph n links = record { n = n; links = links }
+
+abbrev pub whole : Graph
+whole = graph 5 ((0, 1) ∷ (2, 3) ∷ [])
+
+abbrev pub crossing : Graph
+crossing = graph 5 ((0, 2) ∷ (1, 2) ∷ (2, 3) ∷ (2, 4) ∷ [])
+
+abbrev pub line : Graph
+line = graph 3 ((0, 1) ∷ (1, 2) ∷ [])
+
+abbrev whole-row : Row
+whole-row =
+    record {
+      graph = whole;
+      threads = (0 ∷ 1 ∷ []) ∷ (2 ∷ 3 ∷ []) ∷ (4 ∷ []) ∷ [];
+      apart = 1 ∷ 3 ∷ 4 ∷ [];
+      behind = ((2 ∷ 3 ∷ []) ∷ (4 ∷ []) ∷ []) ∷ ((0 ∷ 1 ∷ []) ∷ (4 ∷ []) ∷ []) ∷ ((0 ∷ 1 ∷ []) ∷ (2 ∷ 3 ∷ []) ∷ []) ∷ [];
+    }
+
+abbrev rows : List Row
+rows =
+    record { graph = graph 0 []; threads = []; apart = []; behind = [] }
+    ∷ record { graph = graph 1 []; threads = (0 ∷ []) ∷ []; apart = 0 ∷ []; behind = [] ∷ [] }
+    ∷ whole-row
+    ∷ record {
+      graph = crossing;
+      threads = (0 ∷ 2 ∷ 3 ∷ []) ∷ (1 ∷ 2 ∷ 4 ∷ []) ∷ [];
+      apart = 3 ∷ 4 ∷ [];
+      behind = ((4 ∷ []) ∷ []) ∷ ((3 ∷ []) ∷ []) ∷ [];
+    }
+    ∷ record {
+      graph = graph 3 ((0, 1) ∷ (1, 2) ∷ (0, 2) ∷ []);
+      threads = (0 ∷ 1 ∷ 2 ∷ []) ∷ [];
+      apart = 2 ∷ [];
+      behind = [] ∷ [];
+    }
+    ∷ record {
+      graph = graph 4 ((0, 1) ∷ (0, 2) ∷ (1, 3) ∷ (2, 3) ∷ []);
+      threads = (0 ∷ 1 ∷ 3 ∷ []) ∷ (0 ∷ 2 ∷ 3 ∷ []) ∷ [];
+      apart = 1 ∷ 2 ∷ [];
+      behind = ((2 ∷ 3 ∷ []) ∷ []) ∷ ((1 ∷ 3 ∷ []) ∷ []) ∷ [];
+    }
+    ∷ record { graph = graph 2 ((0, 1) ∷ (0, 1) ∷ []); threads = (0 ∷ 1 ∷ []) ∷ []; apart = 1 ∷ []; behind = [] ∷ [] }
+    ∷ []
+
+rowTest : Row → Bool
+rowTest r = settledTest (r .graph) (r .threads) (r .apart) (r .behind)
+
+rows-pass : T (each rowTest rows)
+unfolding each rowTest settledTest
+rows-pass = tt
+
+-- the loop-free logs that are worked through: cover, apart set and width are as the scope says
+pub worked : All (λ r. Settled (r .graph) (r .threads) (r .apart)) rows
+unfolding rowTest
+worked r m = settled-right (r .graph) (r .threads) (r .apart) (r .behind) (each-right rowTest rows rows-pass r m)
+
+-- a graph and a loop of it
+pub record LoopRow : Type 0 where
+  pub graph : Graph
+  pub loop : List ℕ
+
+abbrev loop-rows : List LoopRow
+loop-rows =
+    record { graph = graph 2 ((0, 1) ∷ (1, 0) ∷ []); loop = 0 ∷ 1 ∷ [] }
+    ∷ record { graph = graph 1 ((0, 0) ∷ []); loop = 0 ∷ [] }
+    ∷ []
+
+loopRowTest : LoopRow → Bool
+loopRowTest r = loopTest (r .graph) (r .loop)
+
+loop-rows-pass : T (each loopRowTest loop-rows)
+unfolding each loopRowTest loopTest
+loop-rows-pass = tt
+
+-- the logs with a loop that are worked through
+pub worked-loops : All (λ r. Loop (r .graph) (r .loop)) loop-rows
+unfolding loopRowTest
+worked-loops r m = loop-right (r .graph) (r .loop) (each-right loopRowTest loop-rows loop-rows-pass r m)
+
+-- The false readings: what each gives is no smallest cover, no apart set or not the furthest here.
+
+-- a cover with more threads than another is not smallest
+larger-cover : {g : Graph} (ts us : List (List ℕ)) → Cover g us → T (ltb (length us) (length ts)) → Smallest g ts → ⊥
+larger-cover ts us cover larger smallest =
+    let h : length us < length ts = ltb→lt (length us) (length ts) larger in
+    let k : length ts ≤ length us = smallest us cover in
+    omega arith
+
+abbrev unshared : List (List ℕ)
+unshared = (0 ∷ 2 ∷ 3 ∷ []) ∷ (1 ∷ []) ∷ (4 ∷ []) ∷ []
+
+-- threads that share nothing: three where two will do
+pub threads-may-share : Cover crossing unshared × (Smallest crossing unshared → ⊥)
+unfolding coverTest
+threads-may-share =
+    let two : List (List ℕ) = (0 ∷ 2 ∷ 3 ∷ []) ∷ (1 ∷ 2 ∷ 4 ∷ []) ∷ [] in
+    (cover-right crossing unshared tt, larger-cover unshared two (cover-right crossing two tt) tt)
+
+-- threads that skip along ways: 0 2 is no thread along 0-1, 1-2
+pub threads-do-not-skip : Thread line (0 ∷ 2 ∷ []) → ⊥
+unfolding linked
+threads-do-not-skip thread = skips (thread .path)
+  where
+    skips : Chain (Link line) (0 ∷ 2 ∷ []) → ⊥
+    skips (more l c) = linked-all line 0 2 l
+
+-- apart as "no link": 0 has a way to 2 along 0-1, 1-2
+pub apart-is-no-way : Apart line (0 ∷ 2 ∷ []) → ⊥
+apart-is-no-way apart =
+    apart .antichain .apart {a = 0} {b = 2} (here refl) (there (here refl)) (λ e. let none : ⊥ = omega arith in none)
+    (step (here refl) (one (there (here refl))))
+
+-- two threads, 0 1 2 and 3 4 5, with a link across: taking each time the thread with most uncovered episodes starts with 0 1 4 5
+abbrev across : Graph
+across = graph 6 ((0, 1) ∷ (1, 2) ∷ (3, 4) ∷ (4, 5) ∷ (1, 4) ∷ [])
+
+abbrev greedy : List (List ℕ)
+greedy = (0 ∷ 1 ∷ 4 ∷ 5 ∷ []) ∷ (0 ∷ 1 ∷ 2 ∷ []) ∷ (3 ∷ 4 ∷ 5 ∷ []) ∷ []
+
+pub greedy-is-a-start : Cover across greedy × (Smallest across greedy → ⊥)
+unfolding coverTest
+greedy-is-a-start =
+    let two : List (List ℕ) = (0 ∷ 1 ∷ 2 ∷ []) ∷ (3 ∷ 4 ∷ 5 ∷ []) ∷ [] in
+    (cover-right across greedy tt, larger-cover greedy two (cover-right across two tt) tt)
+
+-- any largest apart set instead of the furthest: 0 2 4 in the whole example
+pub furthest-is-one : Furthest whole (0 ∷ 2 ∷ 4 ∷ []) → ⊥
+unfolding rises
+furthest-is-one f =
+    let other : List ℕ = 0 ∷ 2 ∷ 4 ∷ [] in
+    let w = worked whole-row (there (there (here refl))) in
+    let same : other ≡ whole-row .apart = furthest-unique (w .acyclic) other (whole-row .apart) f (w .furthest) (rises-right other tt) (w .rising) in
+    let first : _≡_ {A = ℕ} 0 1 = cc in
+    omega arith
