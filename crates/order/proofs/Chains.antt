@@ -1,6 +1,6 @@
 -- Parts of chains and of antichains; any two members of a chain can be compared.
 use mathlib.Core.Path.{_≡_, sym, _∙_, subst}
-use mathlib.Core.Logic.{_≢_, _⊎_, inl, inr, ⊎-elim}
+use mathlib.Core.Logic.{_⊎_, inl, inr}
 use mathlib.Core.List.{
   List,
   [],
@@ -15,7 +15,7 @@ use mathlib.Core.List.{
   Pairwise·sublistᴰ,
 }
 use Rattle.order.specs.Order.{All, Transitive, StrictOrder, Chain, single, more, Antichain}
-use Rattle.order.proofs.Lists.{nodup-cons, nodup-tail, without, without-mem, without-sublist}
+use Rattle.order.proofs.Lists.{all-nil, all-cons, nodup-cons, nodup-tail, without, without-mem, without-sublist}
 
 module _ {A : Type 0} {R : A → A → Type 0} where
   pub not-empty : Chain R [] → ⊥
@@ -41,23 +41,22 @@ module _ {A : Type 0} {R : A → A → Type 0} where
 
 module _ {A : Type 0} {R : A → A → Type 0} (trans : Transitive R) where
   -- the first of a chain is before each of the others
-  pub chain-first : {a x : A} {l : List A} → Chain R (a ∷ l) → Mem x l → R a x
-  chain-first single m = absurd (not-nil m)
-  chain-first {a} {x} (more {b = b} r c) m =
-      ⊎-elim (λ e. subst (λ (y : A). R a y) (sym e) r) (λ n. trans a b x r (chain-first c n)) (mem-cases m)
+  pub chain-first : {a : A} {l : List A} → Chain R (a ∷ l) → All (R a) l
+  chain-first single = all-nil _
+  chain-first {a} (more {b = b} r c) = all-cons r (λ x m. trans a b x r (chain-first c x m))
 
   pub chain-compare : {x y : A} {l : List A} → Chain R l → Mem x l → Mem y l → (x ≡ y) ⊎ (R x y ⊎ R y x)
   chain-compare {x} {y} (single {a = a}) m n = inl (eq-of-singleton m ∙ sym (eq-of-singleton n))
   chain-compare {x} {y} (more {a = a} {b = b} {l = l} r c) m n = go (chain-compare c) (mem-cases m) (mem-cases n)
     where
-      first : {z : A} → Mem z (b ∷ l) → R a z
+      first : All (R a) (b ∷ l)
       first = chain-first (more r c)
 
       go : (Mem x (b ∷ l) → Mem y (b ∷ l) → (x ≡ y) ⊎ (R x y ⊎ R y x)) → (x ≡ a) ⊎ Mem x (b ∷ l) → (y ≡ a) ⊎ Mem y (b ∷ l)
           → (x ≡ y) ⊎ (R x y ⊎ R y x)
       go rest (inl e) (inl f) = inl (e ∙ sym f)
-      go rest (inl e) (inr q) = inr (inl (subst (λ (z : A). R z y) (sym e) (first q)))
-      go rest (inr p) (inl f) = inr (inr (subst (λ (z : A). R z x) (sym f) (first p)))
+      go rest (inl e) (inr q) = inr (inl (subst (λ (z : A). R z y) (sym e) (first y q)))
+      go rest (inr p) (inl f) = inr (inr (subst (λ (z : A). R z x) (sym f) (first x p)))
       go rest (inr p) (inr q) = rest p q
 
   -- two members of an antichain that are on one chain are the same
@@ -74,4 +73,4 @@ module _ {A : Type 0} {R : A → A → Type 0} (trans : Transitive R) where
 pub chain-nodup : {A : Type 0} {R : A → A → Type 0} {l : List A} → StrictOrder R → Chain R l → List·Nodup l
 chain-nodup order single = nodup-cons not-nil Pairwise·nil
 chain-nodup order (more {a = a} r c) =
-    nodup-cons (λ m. order .irreflexive a (chain-first (order .transitive) (more r c) m)) (chain-nodup order c)
+    nodup-cons (λ m. order .irreflexive a (chain-first (order .transitive) (more r c) a m)) (chain-nodup order c)

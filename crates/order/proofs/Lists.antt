@@ -1,6 +1,6 @@
 -- Lists with a decidable membership: the members of one list that another does not have.
-use mathlib.Core.Path.{_≡_, refl, sym, _∙_, ap, subst}
-use mathlib.Core.Logic.{_≢_, _⊎_, inl, inr, ⊎-elim}
+use mathlib.Core.Path.{_≡_, refl, sym, ap, subst}
+use mathlib.Core.Logic.{_⊎_, inl, inr, ⊎-elim}
 use mathlib.Core.HLevel.{⊥-prop}
 use mathlib.Core.List.{
   List,
@@ -22,12 +22,22 @@ use mathlib.Core.List.{
   Sublistᴰ·cons,
   Sublistᴰ·cons-cons,
 }
-use Prim.Native.Nat.{ℕ, suc, _≤_, _<_, zero-le, suc-le-suc}
+use Prim.Native.Nat.{suc, _≤_, _<_, zero-le}
 use native.Mathlib.Omega.{arith}
 use lib.ListN.{length}
-use Rattle.order.specs.Order.{All}
+use Rattle.order.specs.Order.{All, On}
 
 module _ {A : Type 0} where
+  pub all-nil : (P : A → Type 0) → All P []
+  all-nil P x m = absurd (not-nil m)
+
+  pub all-cons : {P : A → Type 0} {a : A} {l : List A} → P a → All P l → All P (a ∷ l)
+  all-cons {P} p h x m = ⊎-elim (λ e. subst P (sym e) p) (h x) (mem-cases m)
+
+  -- what is on one of the lists is on one of more lists
+  pub on-there : {x : A} {l : List A} {ls : List (List A)} → On ls x → On (l ∷ ls) x
+  on-there (k, m, n) = (k, there m, n)
+
   -- a list that starts with `a` has no element twice if the rest has none and does not hold `a`
   pub nodup-cons : {a : A} {l : List A} → (Mem a l → ⊥) → List·Nodup l → List·Nodup (a ∷ l)
   nodup-cons h p = Pairwise·cons (λ b m e. ∥∥₁-rec ⊥-prop (λ d. h (Memᴰ·cast e d)) m) p
@@ -46,14 +56,14 @@ module _ {A : Type 0} where
 
 -- a member that has the property, or none has it
 pub find : {A : Type 0} {P : A → Type 0} → ((x : A) → Dec (P x)) → (l : List A) → ((x : A) × Mem x l × P x) ⊎ All (λ x. P x → ⊥) l
-find test [] = inr (λ x m. absurd (not-nil m))
+find test [] = inr (all-nil _)
 find {A} {P} test (a ∷ l) = go (test a) (find test l)
   where
     go : Dec (P a) → ((x : A) × Mem x l × P x) ⊎ All (λ x. P x → ⊥) l
         → ((x : A) × Mem x (a ∷ l) × P x) ⊎ All (λ x. P x → ⊥) (a ∷ l)
     go (yes p) o = inl (a, here refl, p)
     go (no np) (inl t) = inl (t .0, there (t .1), t .2)
-    go (no np) (inr h) = inr (λ x m. ⊎-elim (λ e p. np (subst P e p)) (h x) (mem-cases m))
+    go (no np) (inr h) = inr (all-cons np h)
 
 module _ {A : Type 0} (dec : Discrete A) where
   -- whether `x` is a member of `l`

@@ -1,6 +1,6 @@
 -- Weak duality: an antichain on some chains has at most as many members as there are chains, since each chain holds at most one; and
 -- where the numbers are equal, each chain holds exactly one.
-use mathlib.Core.Path.{_≡_, refl, sym, subst}
+use mathlib.Core.Path.{_≡_, refl, subst}
 use mathlib.Core.Logic.{_⊎_, inl, inr, ⊎-elim}
 use mathlib.Core.List.{
   List,
@@ -14,7 +14,7 @@ use mathlib.Core.List.{
   List·Memᴰ·eq-of-singleton as eq-of-singleton,
   List-discrete,
 }
-use Prim.Native.Nat.{ℕ, suc, _≤_, _<_, zero-le}
+use Prim.Native.Nat.{suc, _≤_, _<_, zero-le}
 use native.Mathlib.Omega.{arith}
 use lib.ListN.{length}
 use Rattle.order.specs.Order.{All, On, Transitive, Chain, Antichain, HoldsOne}
@@ -51,7 +51,8 @@ module _ {A : Type 0} {R : A → A → Type 0} (dec : Discrete A) (trans : Trans
       on-fewer : All (λ x. Mem x c → ⊥) s → All (On fewer) s
       on-fewer h x xs =
           let o = on x xs in
-          (o .0, mem-without (List-discrete dec) (c ∷ []) cs (o .1) (λ q. h x xs (subst (λ (l : List A). Mem x l) (eq-of-singleton q) (o .2))), o .2)
+          let not-c : Mem (o .0) (c ∷ []) → ⊥ = λ q. h x xs (subst (λ (l : List A). Mem x l) (eq-of-singleton q) (o .2)) in
+          (o .0, mem-without (List-discrete dec) (c ∷ []) cs (o .1) not-c, o .2)
 
       go : ((x : A) × Mem x s × Mem x c) ⊎ All (λ x. Mem x c → ⊥) s → HoldsOne s c
       go (inl t) = (t .0, t .1, t .2, λ y ys yc. on-one-chain trans dec (chains c m) anti ys (t .1) yc (t .2))

@@ -38,14 +38,18 @@ HoldsOne {A} s c = (x : A) × Mem x s × Mem x c × ((y : A) → Mem y s → Mem
 abbrev pub Disjoint : {A : Type 0} → List (List A) → Type 0
 Disjoint {A} = Pairwise (λ (c d : List A). (x : A) → Mem x c → Mem x d → ⊥)
 
--- chains that part `X` among them and an antichain in it, as many as each other
+-- the chains `cs` part `X` among them: a chain partition
+pub record ChainPartition {A : Type 0} (R : A → A → Type 0) (X : List A) (cs : List (List A)) : Type 0 where
+  pub chains : All (Chain R) cs
+  pub within : All (All (λ x. Mem x X)) cs
+  pub disjoint : Disjoint cs
+  pub covered : All (On cs) X
+
+-- a chain partition of `X` and an antichain in it, as many chains as members
 pub record Dilworth {A : Type 0} (R : A → A → Type 0) (X : List A) : Type 0 where
   pub chains : List (List A)
   pub antichain : List A
-  pub are-chains : All (Chain R) chains
-  pub chains-within : All (All (λ x. Mem x X)) chains
-  pub disjoint : Disjoint chains
-  pub covered : All (On chains) X
+  pub partition : ChainPartition R X chains
   pub is-antichain : Antichain R antichain
-  pub antichain-within : All (λ x. Mem x X) antichain
+  pub within : All (λ x. Mem x X) antichain
   pub same : length chains ≡ length antichain

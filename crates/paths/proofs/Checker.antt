@@ -1,6 +1,6 @@
--- Tests that compute, for graphs written out: whether given threads are a cover, given episodes the furthest apart set or a loop. Each test
--- comes with the lemma that it is right.
-use mathlib.Core.Path.{_≡_, refl, sym, ap₂, subst}
+-- Tests that compute, for graphs written out: whether given threads are a cover, given episodes the furthest apart set or a loop.
+-- Each test comes with the lemma that it is right.
+use mathlib.Core.Path.{_≡_, refl, subst}
 use mathlib.Core.Bool.{Bool, true, false, not, _&&_, _||_}
 use mathlib.Core.Logic.{_⊎_, inl, inr, ⊎-elim}
 use mathlib.Core.List.{
@@ -20,12 +20,11 @@ use mathlib.Core.List.{
   IsChain·singleton,
   IsChain·cons-cons,
 }
-use Prim.Native.Nat.{ℕ, zero, suc, _<_}
-use native.Mathlib.Decide.{ℕ-discrete}
+use Prim.Native.Nat.{ℕ, zero, suc}
 use lib.Dec.{T, T-not, eqb, eqb→eq, eqb-refl, ltb, ltb→lt}
 use lib.ListN.{length}
-use Rattle.order.specs.Order.{All, On, Chain, single, more, Antichain}
-use Rattle.order.proofs.Lists.{nodup-cons}
+use Rattle.order.specs.Order.{All, On, Chain, single, more}
+use Rattle.order.proofs.Lists.{all-nil, all-cons, nodup-cons}
 use Rattle.paths.specs.Graph.{
   Graph,
   Episode,
@@ -81,21 +80,22 @@ module _ {A : Type 0} where
 
   pub each-right : (f : A → Bool) (l : List A) → T (each f l) → All (λ x. T (f x)) l
   unfolding each
-  each-right f [] h x m = absurd (not-nil m)
-  each-right f (y ∷ l) h x m =
-      let q = both (f y) (each f l) h in
-      ⊎-elim (λ e. subst (λ (z : A). T (f z)) (sym e) (q .0)) (each-right f l (q .1) x) (mem-cases m)
+  each-right f [] h = all-nil _
+  each-right f (y ∷ l) h = let q = both (f y) (each f l) h in all-cons (q .0) (each-right f l (q .1))
 
   some-right : (f : A → Bool) (l : List A) → T (some f l) → (x : A) × Mem x l × T (f x)
   unfolding some
   some-right f [] h = absurd h
-  some-right f (y ∷ l) h = ⊎-elim (λ p. (y, here refl, p)) (λ q. let r = some-right f l q in (r .0, there (r .1), r .2)) (either (f y) (some f l) h)
+  some-right f (y ∷ l) h =
+      ⊎-elim (λ p. (y, here refl, p)) (λ q. let r = some-right f l q in (r .0, there (r .1), r .2)) (either (f y) (some f l) h)
 
   some-all : (f : A → Bool) (l : List A) {x : A} → Mem x l → T (f x) → T (some f l)
   unfolding some
   some-all f [] m h = absurd (not-nil m)
   some-all f (y ∷ l) m h =
-      ⊎-elim (λ e. left (f y) (some f l) (subst (λ (z : A). T (f z)) e h)) (λ n. right (f y) (some f l) (some-all f l n h)) (mem-cases m)
+      ⊎-elim (λ e. left (f y) (some f l) (subst (λ (z : A). T (f z)) e h))
+      (λ n. right (f y) (some f l) (some-all f l n h))
+      (mem-cases m)
 
 unfoldable pub member : ℕ → List ℕ → Bool
 unfolding some
@@ -131,7 +131,9 @@ chained-right : {R : ℕ → ℕ → Type 0} (f : ℕ → ℕ → Bool) → ((a 
 unfolding chained
 chained-right f h [] t = absurd t
 chained-right f h (a ∷ []) t = single
-chained-right f h (a ∷ b ∷ l) t = let q = both (f a b) (chained f (b ∷ l)) t in more (h a b (q .0)) (chained-right f h (b ∷ l) (q .1))
+chained-right f h (a ∷ b ∷ l) t =
+    let q = both (f a b) (chained f (b ∷ l)) t in
+    more (h a b (q .0)) (chained-right f h (b ∷ l) (q .1))
 
 unfoldable pub rises : List ℕ → Bool
 rises [] = true
@@ -142,7 +144,9 @@ pub rises-right : (l : List ℕ) → T (rises l) → Rising l
 unfolding rises
 rises-right [] t = IsChain·nil
 rises-right (a ∷ []) t = IsChain·singleton a
-rises-right (a ∷ b ∷ l) t = let q = both (ltb a b) (rises (b ∷ l)) t in IsChain·cons-cons (ltb→lt a b (q .0)) (rises-right (b ∷ l) (q .1))
+rises-right (a ∷ b ∷ l) t =
+    let q = both (ltb a b) (rises (b ∷ l)) t in
+    IsChain·cons-cons (ltb→lt a b (q .0)) (rises-right (b ∷ l) (q .1))
 
 module _ (g : Graph) where
   unfoldable pub linked : ℕ → ℕ → Bool
@@ -160,7 +164,8 @@ module _ (g : Graph) where
 
   pub linked-all : (a b : ℕ) → Link g a b → T (linked a b)
   unfolding linked
-  linked-all a b m = some-all (λ (l : ℕ × ℕ). eqb a (l .0) && eqb b (l .1)) (g .links) m (pair (eqb a a) (eqb b b) (eqb-refl a) (eqb-refl b))
+  linked-all a b m =
+      some-all (λ (l : ℕ × ℕ). eqb a (l .0) && eqb b (l .1)) (g .links) m (pair (eqb a a) (eqb b b) (eqb-refl a) (eqb-refl b))
 
   -- a way with inner episodes below `k`
   unfoldable pub reaches : ℕ → ℕ → ℕ → Bool
@@ -191,7 +196,8 @@ module _ (g : Graph) where
   ends-right : T endsTest → EndsBelow g
   unfolding endsTest
   ends-right h a b m =
-      let q = both (ltb a (g .n)) (ltb b (g .n)) (each-right (λ (l : ℕ × ℕ). ltb (l .0) (g .n) && ltb (l .1) (g .n)) (g .links) h (a, b) m) in
+      let t = each-right (λ (l : ℕ × ℕ). ltb (l .0) (g .n) && ltb (l .1) (g .n)) (g .links) h (a, b) m in
+      let q = both (ltb a (g .n)) (ltb b (g .n)) t in
       (ltb→lt a (g .n) (q .0), ltb→lt b (g .n) (q .1))
 
   episodesTest : List ℕ → Bool
@@ -233,7 +239,8 @@ module _ (g : Graph) where
   pub acyclic-right : EndsBelow g → T acyclicTest → Acyclic g
   unfolding acyclicTest
   acyclic-right ends h v w =
-      T-not (reaches (g .n) v v) (each-right (λ v. not (reaches (g .n) v v)) (below (g .n)) h v (lt-below (g .n) (way-first ends w)))
+      T-not (reaches (g .n) v v)
+      (each-right (λ v. not (reaches (g .n) v v)) (below (g .n)) h v (lt-below (g .n) (way-first ends w)))
       (reaches-all (g .n) v v (way-below g ends w))
 
   -- neither the same nor with a way
@@ -249,7 +256,10 @@ module _ (g : Graph) where
   apart-right ends s h =
       let q = both (episodesTest s) (different s && each (noWay s) s) h in
       let r = both (different s) (each (noWay s) s) (q .1) in
-      record { episodes = episodes-right s (q .0); antichain = record { once = different-right s (r .0); apart = λ m n. none (r .1) m n } }
+      record {
+        episodes = episodes-right s (q .0);
+        antichain = record { once = different-right s (r .0); apart = λ m n. none (r .1) m n };
+      }
     where
       none : T (each (noWay s) s) → {a b : ℕ} → Mem a s → Mem b s → (a ≡ b → ⊥) → Way g a b → ⊥
       none h {a} {b} m n ne w =
@@ -278,9 +288,10 @@ module _ (g : Graph) where
     where
       held : (v : ℕ) → T (heldTest b ts v) → (v ≡ b) ⊎ (Way g v b ⊎ On ts v)
       held v t =
-          ⊎-elim (λ e. inl (eqb→eq v b e))
-          (λ u. inr (⊎-elim (λ w. inl (below-way g (g .n) (reaches-right (g .n) v b w))) (λ o. inr (on-right ts v o)) (either (reaches (g .n) v b) (some (member v) ts) u)))
-          (either (eqb v b) (reaches (g .n) v b || some (member v) ts) t)
+          let way : T (reaches (g .n) v b) → Way g v b = λ w. below-way g (g .n) (reaches-right (g .n) v b w) in
+          let rest : T (reaches (g .n) v b || some (member v) ts) → Way g v b ⊎ On ts v =
+          λ u. ⊎-elim (λ w. inl (way w)) (λ o. inr (on-right ts v o)) (either (reaches (g .n) v b) (some (member v) ts) u) in
+          ⊎-elim (λ e. inl (eqb→eq v b e)) (λ u. inr (rest u)) (either (eqb v b) (reaches (g .n) v b || some (member v) ts) t)
 
   -- a list of threads for each member
   behindEach : List ℕ → List ℕ → List (List (List ℕ)) → Bool
@@ -291,17 +302,18 @@ module _ (g : Graph) where
 
   behind-each : (s r : List ℕ) (bs : List (List (List ℕ))) → T (behindEach s r bs) → All (Behind g s) r
   unfolding behindEach
-  behind-each s [] bs h v m = absurd (not-nil m)
-  behind-each s (b ∷ r) [] h v m = absurd h
-  behind-each s (b ∷ r) (ts ∷ bs) h v m =
+  behind-each s [] bs h = all-nil _
+  behind-each s (b ∷ r) [] h = absurd h
+  behind-each s (b ∷ r) (ts ∷ bs) h =
       let q = both (behindTest s b ts) (behindEach s r bs) h in
-      ⊎-elim (λ e. subst (λ (x : ℕ). Behind g s x) (sym e) (behind-right s b ts (q .0))) (behind-each s r bs (q .1) v) (mem-cases m)
+      all-cons (behind-right s b ts (q .0)) (behind-each s r bs (q .1))
 
   unfoldable pub furthestTest : List ℕ → List (List (List ℕ)) → Bool
   unfolding behindEach behindTest heldTest threadTest episodesTest each some member chained linked reaches below
   furthestTest s bs = behindEach s s bs
 
-  pub furthest-right : EndsBelow g → (s : List ℕ) (bs : List (List (List ℕ))) → Apart g s → Largest g s → T (furthestTest s bs) → Furthest g s
+  pub furthest-right : EndsBelow g → (s : List ℕ) (bs : List (List (List ℕ))) → Apart g s → Largest g s → T (furthestTest s bs)
+      → Furthest g s
   unfolding furthestTest
   furthest-right ends s bs apart largest h = furthest-by-threads ends apart largest (behind-each s s bs h)
 

@@ -1,15 +1,15 @@
 -- Duality: an apart set has at most as many members as a cover has threads, and an acyclic graph has the two of equal size.
-use mathlib.Core.Path.{_≡_, refl, sym, _∙_}
+use mathlib.Core.Path.{_≡_, sym, _∙_}
 use mathlib.Core.Logic.{_↔_}
-use mathlib.Core.List.{List, List·Memᴰ as Mem}
+use mathlib.Core.List.{List}
 use Prim.Native.Nat.{ℕ, _≤_}
 use native.Mathlib.Decide.{ℕ-discrete}
 use native.Mathlib.Omega.{arith}
 use lib.ListN.{length}
-use Rattle.order.specs.Order.{All, Chain, HoldsOne, Dilworth}
+use Rattle.order.specs.Order.{All, HoldsOne, Dilworth}
 use Rattle.order.proofs.Pigeonhole.{antichain-le-chains, chain-holds-one}
 use Rattle.order.proofs.Dilworth.{dilworth}
-use Rattle.paths.specs.Graph.{Graph, EndsBelow, Way, Acyclic, Thread, Cover, Apart, Smallest, Largest}
+use Rattle.paths.specs.Graph.{Graph, EndsBelow, Way, Acyclic, Cover, Apart, Smallest, Largest}
 use Rattle.paths.proofs.Ways.{way-trans, way-order, decWay}
 use Rattle.paths.proofs.Threads.{thread-chain, Filled, chains-threads}
 use Rattle.paths.proofs.Numbers.{below, below-lt, lt-below}
@@ -46,8 +46,8 @@ module _ {g : Graph} where
       record {
         threads = filled .threads;
         apart = parts .antichain;
-        is-cover = record { threads = filled .are-threads; whole = λ v h. filled .hold v (parts .covered v (lt-below (g .n) h)) };
-        is-apart = record { episodes = λ v m. below-lt (g .n) (parts .antichain-within v m); antichain = parts .is-antichain };
+        is-cover = record { threads = filled .are-threads; whole = λ v h. filled .hold v (parts .partition .covered v (lt-below (g .n) h)) };
+        is-apart = record { episodes = λ v m. below-lt (g .n) v (parts .within v m); antichain = parts .is-antichain };
         same = filled .same ∙ parts .same;
       }
     where
@@ -55,7 +55,9 @@ module _ {g : Graph} where
       parts = dilworth ℕ-discrete (decWay g ends) (way-order acyclic) (below (g .n))
 
       filled : Filled g (parts .chains)
-      filled = chains-threads ends (parts .chains) (parts .are-chains) (λ c m v n. below-lt (g .n) (parts .chains-within c m v n))
+      filled =
+          chains-threads ends (parts .chains) (parts .partition .chains)
+          (λ c m v n. below-lt (g .n) v (parts .partition .within c m v n))
 
   pub duality : EndsBelow g → Acyclic g → (ts : List (List ℕ)) (s : List ℕ) → Cover g ts → Apart g s
       → (length ts ≡ length s) ↔ (Smallest g ts × Largest g s)

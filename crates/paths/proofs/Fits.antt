@@ -1,4 +1,5 @@
--- Every report fits: a thread and an apart set share at most one episode, so c + k ≤ n + 1, and k threads have at most k × (n + 1 - k) steps.
+-- Every report fits: a thread and an apart set share at most one episode, so c + k ≤ n + 1, and k threads have at most
+-- k × (n + 1 - k) steps.
 use mathlib.Core.Path.{_≡_, refl, subst}
 use mathlib.Core.Logic.{⊎-elim}
 use mathlib.Core.List.{
@@ -6,7 +7,6 @@ use mathlib.Core.List.{
   [],
   _∷_,
   _++_,
-  List·Memᴰ as Mem,
   List·Memᴰ·head as here,
   List·Memᴰ·tail as there,
   List·Memᴰ·append-cases as append-cases,
@@ -19,8 +19,8 @@ use native.Mathlib.Nat.{mul-add, add-mul, mul-comm, add-comm, suc-mul}
 use native.Mathlib.Omega.{arith}
 use lib.ListN.{length, length-append}
 use Rattle.order.specs.Order.{All}
-use Rattle.order.proofs.Lists.{nodup-append, without, without-mem, without-sublist, length-without-one}
-use Rattle.order.proofs.Chains.{on-one-chain, chain-nodup}
+use Rattle.order.proofs.Lists.{nodup-append, without, without-mem, length-without-one}
+use Rattle.order.proofs.Chains.{antichain-without, on-one-chain, chain-nodup}
 use Rattle.paths.specs.Graph.{Graph, Acyclic, Thread, Cover, Apart, totalSteps}
 use Rattle.paths.proofs.Ways.{way-trans, way-order}
 use Rattle.paths.proofs.Threads.{thread-chain}
@@ -77,19 +77,23 @@ module _ {g : Graph} (acyclic : Acyclic g) where
 
   pub thread-apart-le : (t s : List ℕ) → Thread g t → Apart g s → length t + length s ≤ g .n + 1
   thread-apart-le t s thread apart =
-      let shared : length s ≤ suc (length (without ℕ-discrete t s)) =
+      let shared : length s ≤ suc (length others) =
       length-without-one ℕ-discrete t s (apart .antichain .once)
       (λ x y xs ys xt yt. on-one-chain way-trans ℕ-discrete (thread-chain thread) (apart .antichain) xs ys xt yt) in
-      let all : length (t ++ without ℕ-discrete t s) ≤ g .n = nodup-below (g .n) (t ++ without ℕ-discrete t s) once below in
-      let sum : length (t ++ without ℕ-discrete t s) ≡ length t + length (without ℕ-discrete t s) = length-append t (without ℕ-discrete t s) in
+      let all : length (t ++ others) ≤ g .n = nodup-below (g .n) (t ++ others) once below in
+      let sum : length (t ++ others) ≡ length t + length others = length-append t others in
       omega arith
     where
-      once : List·Nodup (t ++ without ℕ-discrete t s)
+      -- the members that are not on the thread
+      others : List ℕ
+      others = without ℕ-discrete t s
+
+      once : List·Nodup (t ++ others)
       once =
-          nodup-append t (without ℕ-discrete t s) (thread-nodup thread) (Pairwise·sublistᴰ (without-sublist ℕ-discrete t s) (apart .antichain .once))
+          nodup-append t others (thread-nodup thread) (antichain-without ℕ-discrete t s (apart .antichain) .once)
           (λ x m n. without-mem ℕ-discrete t s n .1 m)
 
-      below : All (λ v. v < g .n) (t ++ without ℕ-discrete t s)
+      below : All (λ v. v < g .n) (t ++ others)
       below v m = ⊎-elim (thread .episodes v) (λ n. apart .episodes v (without-mem ℕ-discrete t s n .0)) (append-cases t m)
 
   -- a report's words: the width, the apart set, for each thread its length and its steps, and the end

@@ -1,4 +1,5 @@
--- One furthest: of two furthest apart sets each member of one is in the other, since a way there and a way back would join two members.
+-- One furthest: of two furthest apart sets each member of one is in the other, since a way there and a way back would join two
+-- members of one set. And how a largest apart set is shown to be furthest.
 use mathlib.Core.Path.{_≡_, sym, subst}
 use mathlib.Core.Logic.{_⊎_, inl, inr, ⊎-elim}
 use mathlib.Core.List.{List, List·Memᴰ as Mem, Memᴰ·cast}
@@ -48,14 +49,18 @@ pub record Behind (g : Graph) (s : List ℕ) (b : ℕ) : Type 0 where
   pub fewer : length threads < length s
   pub hold : (v : ℕ) → Episode g v → (v ≡ b) ⊎ (Way g v b ⊎ On threads v)
 
--- Where that is so for each member, a largest apart set is furthest: another without `b`, and without an episode that has a way to `b`, is too small.
+-- Where that is so for each member, a largest apart set is furthest: another with neither `b` nor an episode that has a way to `b`
+-- is too small.
 pub furthest-by-threads : {g : Graph} {s : List ℕ} → EndsBelow g → Apart g s → Largest g s → All (Behind g s) s → Furthest g s
 furthest-by-threads {g} {s} ends apart largest behind = record { apart = apart; largest = largest; along = along }
   where
     along : (r : List ℕ) → Apart g r → Largest g r → Along g r s
     along r other most b m = go (decMem ℕ-discrete b r) (find (λ a. decWay g ends a b) r)
       where
-        go : Dec (Mem b r) → ((a : ℕ) × Mem a r × Way g a b) ⊎ All (λ a. Way g a b → ⊥) r → Mem b r ⊎ ((a : ℕ) × Mem a r × Way g a b)
+        Before : Type 0
+        Before = (a : ℕ) × Mem a r × Way g a b
+
+        go : Dec (Mem b r) → Before ⊎ All (λ a. Way g a b → ⊥) r → Mem b r ⊎ Before
         go (yes n) o = inl n
         go (no nb) (inl a) = inr a
         go (no nb) (inr none) =
@@ -69,4 +74,5 @@ furthest-by-threads {g} {s} ends apart largest behind = record { apart = apart; 
           where
             held : All (On (behind b m .threads)) r
             held v n =
-                ⊎-elim (λ e. absurd (nb (Memᴰ·cast (sym e) n))) (⊎-elim (λ w. absurd (none v n w)) (λ o. o)) (behind b m .hold v (other .episodes v n))
+                ⊎-elim (λ e. absurd (nb (Memᴰ·cast (sym e) n))) (⊎-elim (λ w. absurd (none v n w)) (λ o. o))
+                (behind b m .hold v (other .episodes v n))

@@ -1,4 +1,5 @@
--- Loops: a graph is acyclic exactly when it has none. A walk that comes back to its start holds a loop, from an episode to its next visit.
+-- Loops: a graph is acyclic exactly when it has none. A walk that comes back to its start holds a loop, from an episode to its next
+-- visit.
 use mathlib.Core.Path.{_≡_, refl, sym, subst}
 use mathlib.Core.Logic.{_⊎_, inl, inr, ⊎-elim, _↔_}
 use mathlib.Core.List.{
@@ -20,7 +21,7 @@ use Prim.Native.Nat.{ℕ, zero, suc, _<_}
 use native.Mathlib.Decide.{ℕ-discrete}
 use native.Mathlib.Omega.{arith}
 use Rattle.order.specs.Order.{All, Chain, single, more}
-use Rattle.order.proofs.Lists.{decMem, nodup-cons, nodup-head, nodup-tail}
+use Rattle.order.proofs.Lists.{all-nil, all-cons, decMem, nodup-cons, nodup-head, nodup-tail}
 use Rattle.paths.specs.Graph.{Graph, Episode, Link, EndsBelow, Way, one, step, Acyclic, Loop}
 use Rattle.paths.proofs.Ways.{way-first, decWay}
 
@@ -41,7 +42,7 @@ before {A} {R} {a} {x} (more {b = b} {l = t} r c) m = go (before c) (mem-cases m
         record {
           part = [];
           walk = more (subst (λ (y : A). R a y) (sym e) r) single;
-          within = λ y n. absurd (not-nil n);
+          within = all-nil _;
           once = λ p. Pairwise·nil;
           new = λ p. not-nil;
         }
@@ -52,7 +53,7 @@ before {A} {R} {a} {x} (more {b = b} {l = t} r c) m = go (before c) (mem-cases m
             record {
               part = b ∷ q .part;
               walk = more r (q .walk);
-              within = λ y o. ⊎-elim here (λ z. there (q .within y z)) (mem-cases o);
+              within = all-cons (here refl) (λ y o. there (q .within y o));
               once = λ p. nodup-cons (λ o. nodup-head p (q .within b o)) (q .once (nodup-tail p));
               new = λ p o. ⊎-elim (λ e. nodup-head p (Memᴰ·cast (sym e) n)) (q .new (nodup-tail p)) (mem-cases o);
             }
@@ -69,13 +70,15 @@ module _ {g : Graph} where
 
   -- a loop leads from its first episode back to it
   pub loop-way : {c : List ℕ} (o : Loop g c) → Way g (o .first) (o .first)
-  loop-way o = walk-way (o .first) (o .others) (o .first) (subst (λ (l : List ℕ). Chain (Link g) (l ++ o .first ∷ [])) (o .parts) (o .closed))
+  loop-way o =
+      walk-way (o .first) (o .others) (o .first)
+      (subst (λ (l : List ℕ). Chain (Link g) (l ++ o .first ∷ [])) (o .parts) (o .closed))
 
   module _ (ends : EndsBelow g) where
     -- what a link leaves is an episode
     walk-episodes : (a : ℕ) (p : List ℕ) (x : ℕ) → Chain (Link g) (a ∷ p ++ x ∷ []) → All (Episode g) (a ∷ p)
-    walk-episodes a [] x (more l c) v m = ⊎-elim (λ e. subst (λ (y : ℕ). Episode g y) (sym e) (ends a x l .0)) (λ n. absurd (not-nil n)) (mem-cases m)
-    walk-episodes a (b ∷ p) x (more l c) v m = ⊎-elim (λ e. subst (λ (y : ℕ). Episode g y) (sym e) (ends a b l .0)) (walk-episodes b p x c v) (mem-cases m)
+    walk-episodes a [] x (more l c) = all-cons (ends a x l .0) (all-nil _)
+    walk-episodes a (b ∷ p) x (more l c) = all-cons (ends a b l .0) (walk-episodes b p x c)
 
     -- the episodes of a walk are all different, or some of them are a loop
     walk-loop : {l : List ℕ} → Chain (Link g) l → List·Nodup l ⊎ ((c : List ℕ) × Loop g c)

@@ -1,6 +1,6 @@
--- The numbers below n, as a list: lists of different numbers below n have at most n members, and rising lists with the same members are equal.
+-- The numbers below n as a list, so that different numbers below n are at most n; and rising lists with the same members are equal.
 use mathlib.Core.Path.{_≡_, refl, sym, ap, ap₂}
-use mathlib.Core.Logic.{_⊎_, inl, inr, ⊎-elim}
+use mathlib.Core.Logic.{_⊎_, inl, inr}
 use mathlib.Core.List.{
   List,
   [],
@@ -20,7 +20,7 @@ use native.Mathlib.Decide.{ℕ-discrete}
 use native.Mathlib.Omega.{arith}
 use lib.ListN.{length}
 use Rattle.order.specs.Order.{All}
-use Rattle.order.proofs.Lists.{nodup-le}
+use Rattle.order.proofs.Lists.{all-nil, all-cons, nodup-le}
 use Rattle.paths.specs.Graph.{Rising}
 
 -- the numbers below `n`, the largest first
@@ -28,10 +28,10 @@ unfoldable pub below : ℕ → List ℕ
 below zero = []
 below (suc n) = n ∷ below n
 
-pub below-lt : {v : ℕ} (n : ℕ) → Mem v (below n) → v < n
+pub below-lt : (n : ℕ) → All (λ v. v < n) (below n)
 unfolding below
-below-lt zero m = absurd (not-nil m)
-below-lt {v} (suc n) m = ⊎-elim (λ (e : v ≡ n). let h : v < suc n = omega arith in h) (λ r. let h = below-lt n r in let k : v < suc n = omega arith in k) (mem-cases m)
+below-lt zero = all-nil _
+below-lt (suc n) = all-cons (omega arith) (λ v m. let h = below-lt n v m in omega arith)
 
 pub lt-below : {v : ℕ} (n : ℕ) → v < n → Mem v (below n)
 unfolding below
@@ -74,7 +74,9 @@ rising-equal [] (b ∷ r) rs rr h k = absurd (not-nil (k b (here refl)))
 rising-equal (a ∷ s) [] rs rr h k = absurd (not-nil (h a (here refl)))
 rising-equal (a ∷ s) (b ∷ r) rs rr h k =
     ap₂ (λ (x : ℕ) (l : List ℕ). x ∷ l) first
-    (rising-equal s r (rising-tail rs) (rising-tail rr) (λ v m. kept first v m (rising-first rs) (h v (there m))) (λ v m. kept (sym first) v m (rising-first rr) (k v (there m))))
+    (rising-equal s r (rising-tail rs) (rising-tail rr)
+    (λ v m. kept first (rising-first rs m) (h v (there m)))
+    (λ v m. kept (sym first) (rising-first rr m) (k v (there m))))
   where
     first : a ≡ b
     first = go (mem-cases (h a (here refl))) (mem-cases (k b (here refl)))
@@ -87,9 +89,9 @@ rising-equal (a ∷ s) (b ∷ r) rs rr h k =
             let y : a < b = rising-first rs n in
             omega arith
 
-    kept : {x y : ℕ} {l m : List ℕ} → x ≡ y → (v : ℕ) → Mem v l → (Mem v l → x < v) → Mem v (y ∷ m) → Mem v m
-    kept {x} {y} {l} {m} e v q lt o = go (mem-cases o)
+    kept : {x y v : ℕ} {l : List ℕ} → x ≡ y → x < v → Mem v (y ∷ l) → Mem v l
+    kept {x} {y} {v} {l} e lt o = go (mem-cases o)
       where
-        go : (v ≡ y) ⊎ Mem v m → Mem v m
-        go (inl f) = let h : x < v = lt q in let none : ⊥ = omega arith in absurd none
+        go : (v ≡ y) ⊎ Mem v l → Mem v l
+        go (inl f) = let none : ⊥ = omega arith in absurd none
         go (inr n) = n

@@ -1,5 +1,5 @@
--- What is proved of graphs, each statement in full; the proofs are in the modules named. The definitions are those of specs/Graph and of the
--- specs/Order of `order`. `EndsBelow g` says that both ends of every link are episodes, which holds of the graph of every accepted log.
+-- What is proved of graphs, each statement in full; the proofs are in the modules that are named. The definitions are those of
+-- specs/Graph.antt and, in the crate `order`, of specs/Order.antt.
 use mathlib.Core.Path.{_≡_, refl, sym, _∙_}
 use mathlib.Core.Logic.{_⊎_, _↔_}
 use mathlib.Core.List.{List, _∷_, List·Memᴰ as Mem, List·Nodup}
@@ -38,12 +38,14 @@ pub weak-duality : {g : Graph} (ts : List (List ℕ)) (s : List ℕ) → Cover g
 weak-duality = Duality.weak-duality
 
 -- Where the two numbers are equal, every thread of the cover holds exactly one member.
-pub one-member-each : {g : Graph} (ts : List (List ℕ)) (s : List ℕ) → Cover g ts → Apart g s → length ts ≡ length s → All (HoldsOne s) ts
+pub one-member-each : {g : Graph} (ts : List (List ℕ)) (s : List ℕ) → Cover g ts → Apart g s → length ts ≡ length s
+    → All (HoldsOne s) ts
 one-member-each = Duality.holds-one
 
--- 2. Dilworth's theorem: over any type with decidable equality, for any decidable strict order and any list, there are chains that part the
--- list among them and an antichain in it, as many as each other.
-pub dilworth : {A : Type 0} {R : A → A → Type 0} → Discrete A → ((a b : A) → Dec (R a b)) → StrictOrder R → (X : List A) → Dilworth R X
+-- 2. Dilworth's theorem: over any type with decidable equality, for any decidable strict order and any list, there are chains that
+-- part the list among them and an antichain in it, as many as each other.
+pub dilworth : {A : Type 0} {R : A → A → Type 0} → Discrete A → ((a b : A) → Dec (R a b)) → StrictOrder R
+    → (X : List A) → Dilworth R X
 dilworth = Galvin.dilworth
 
 -- 3. Whether one episode has a way to another can be decided.
@@ -79,9 +81,12 @@ width-exists g ends acyclic =
     let (ts, s, cover, apart, same) = equal-pair g ends acyclic in
     (length ts, (ts, cover, Duality.equal-smallest ts s apart same, refl))
 
-pub width-largest : (g : Graph) → EndsBelow g → Acyclic g → (k : ℕ) (s : List ℕ) → Width g k → Apart g s → (length s ≡ k) ↔ Largest g s
-width-largest g ends acyclic k s (ts, cover, smallest, e) apart =
-    (λ same. Duality.equal-largest ts s cover (e ∙ sym same), λ largest. sym (duality g ends acyclic ts s cover apart .1 (smallest, largest)) ∙ e)
+pub width-largest : (g : Graph) → EndsBelow g → Acyclic g → (k : ℕ) (s : List ℕ) → Width g k → Apart g s
+    → (length s ≡ k) ↔ Largest g s
+width-largest g ends acyclic k s (ts, cover, smallest, e) apart = (
+  λ same. Duality.equal-largest ts s cover (e ∙ sym same),
+  λ largest. sym (duality g ends acyclic ts s cover apart .1 (smallest, largest)) ∙ e,
+)
 
 -- 6. One furthest: two rising furthest apart sets are equal.
 pub one-furthest : (g : Graph) → Acyclic g → (s r : List ℕ) → Furthest g s → Furthest g r → Rising s → Rising r → s ≡ r
@@ -103,7 +108,7 @@ thread-and-apart = Fits.thread-apart-le
 pub product-bound : (k m : ℕ) → k ≤ m → k * (m - k) ≤ m * m / 4
 product-bound = Fits.product-le
 
--- A report's words fit 2 + 2n + q: one with the width, one for each apart episode, one for each thread with its length, the steps, the end.
+-- A report's words fit 2 + 2n + q: the width, the apart episodes, for each thread its length and its steps, and the end.
 pub report-fits : {g : Graph} → Acyclic g → (ts : List (List ℕ)) (s : List ℕ) → Cover g ts → Apart g s → length ts ≡ length s
     → 1 + length s + (length ts + totalSteps ts) + 1 ≤ 2 + 2 * g .n + (g .n + 1) * (g .n + 1) / 4
 report-fits = Fits.report-fits

@@ -1,6 +1,6 @@
 -- Threads and chains of ways: a thread is one, and one becomes a thread that holds its episodes when each way is filled in.
-use mathlib.Core.Path.{_≡_, refl, sym, ap, subst}
-use mathlib.Core.Logic.{_⊎_, inl, inr, ⊎-elim}
+use mathlib.Core.Path.{_≡_, refl, ap, subst}
+use mathlib.Core.Logic.{⊎-elim}
 use mathlib.Core.List.{
   List,
   [],
@@ -14,6 +14,7 @@ use mathlib.Core.List.{
 use Prim.Native.Nat.{ℕ, suc}
 use lib.ListN.{length}
 use Rattle.order.specs.Order.{All, On, Chain, single, more}
+use Rattle.order.proofs.Lists.{all-nil, all-cons, on-there}
 use Rattle.order.proofs.Chains.{chain-map, not-empty}
 use Rattle.paths.specs.Graph.{Graph, Episode, Link, EndsBelow, Way, one, step, Thread}
 
@@ -29,18 +30,15 @@ module _ {g : Graph} where
   thread-chain t = chain-map (λ a b. one) (t .path)
 
   pub thread-single : {a : ℕ} → Episode g a → Thread g (a ∷ [])
-  thread-single {a} h = record { episodes = λ v m. ⊎-elim (λ e. subst (λ (x : ℕ). Episode g x) (sym e) h) (λ n. absurd (not-nil n)) (mem-cases m); path = single }
+  thread-single h = record { episodes = all-cons h (all-nil _); path = single }
 
   pub thread-cons : {a b : ℕ} {t : List ℕ} → Episode g a → Link g a b → Thread g (b ∷ t) → Thread g (a ∷ b ∷ t)
-  thread-cons h l t =
-      record {
-        episodes = λ v m. ⊎-elim (λ e. subst (λ (x : ℕ). Episode g x) (sym e) h) (t .episodes v) (mem-cases m);
-        path = more l (t .path);
-      }
+  thread-cons h l t = record { episodes = all-cons h (t .episodes); path = more l (t .path) }
 
   module _ (ends : EndsBelow g) where
     -- a way in front of a thread
-    pub way-thread : {a b : ℕ} {t : List ℕ} → Way g a b → Thread g (b ∷ t) → (m : List ℕ) × Thread g (a ∷ m) × All (λ v. Mem v m) (b ∷ t)
+    pub way-thread : {a b : ℕ} {t : List ℕ} → Way g a b → Thread g (b ∷ t)
+        → (m : List ℕ) × Thread g (a ∷ m) × All (λ v. Mem v m) (b ∷ t)
     way-thread {a} {b} {t} (one l) th = (b ∷ t, thread-cons (ends a b l .0) l th, λ v m. m)
     way-thread (step {a = a} {b = b} l w) th =
         let r = way-thread w th in
@@ -53,11 +51,11 @@ module _ {g : Graph} where
     chain-thread {a} (more w c) h =
         let r = chain-thread c (λ v m. h v (there m)) in
         let s = way-thread w (r .1) in
-        (s .0, s .1, λ v m. ⊎-elim here (λ n. there (s .2 v (r .2 v n))) (mem-cases m))
+        (s .0, s .1, all-cons (here refl) (λ v m. there (s .2 v (r .2 v m))))
 
     pub chains-threads : (cs : List (List ℕ)) → All (Chain (Way g)) cs → All (All (Episode g)) cs → Filled g cs
     chains-threads [] chains h =
-        record { threads = []; same = refl; are-threads = λ t m. absurd (not-nil m); hold = λ v o. absurd (not-nil (o .1)) }
+        record { threads = []; same = refl; are-threads = all-nil _; hold = λ v o. absurd (not-nil (o .1)) }
     chains-threads ([] ∷ cs) chains h = absurd (not-empty (chains [] (here refl)))
     chains-threads ((a ∷ l) ∷ cs) chains h =
         go (chain-thread (chains (a ∷ l) (here refl)) (h (a ∷ l) (here refl)))
@@ -68,12 +66,12 @@ module _ {g : Graph} where
             record {
               threads = (a ∷ m) ∷ r .threads;
               same = ap suc (r .same);
-              are-threads = λ t q. ⊎-elim (λ e. subst (λ (k : List ℕ). Thread g k) (sym e) th) (r .are-threads t) (mem-cases q);
+              are-threads = all-cons th (r .are-threads);
               hold = hold;
             }
           where
             hold : (v : ℕ) → On ((a ∷ l) ∷ cs) v → On ((a ∷ m) ∷ r .threads) v
             hold v (c, q, vc) =
                 ⊎-elim (λ e. (a ∷ m, here refl, all v (subst (λ (k : List ℕ). Mem v k) e vc)))
-                (λ n. let o = r .hold v (c, n, vc) in (o .0, there (o .1), o .2))
+                (λ n. on-there (r .hold v (c, n, vc)))
                 (mem-cases q)

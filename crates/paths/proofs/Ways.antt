@@ -84,7 +84,8 @@ module _ (g : Graph) where
   -- with inner episodes below n all ways are had
   pub way-below : EndsBelow g → {a b : ℕ} → Way g a b → WayBelow g (g .n) a b
   way-below ends (one l) = link-below (g .n) l
-  way-below ends (step {a = a} {b = b} {c = c} l w) = below-trans (g .n) a b c (ends a b l .1) (link-below (g .n) l) (way-below ends w)
+  way-below ends (step {a = a} {b = b} {c = c} l w) =
+      below-trans (g .n) a b c (ends a b l .1) (link-below (g .n) l) (way-below ends w)
 
   -- reachability is decidable
   pub decWay : EndsBelow g → (a b : ℕ) → Dec (Way g a b)

@@ -1,7 +1,7 @@
 -- The worked graphs of the scope and its four false readings, by the tests that compute.
 use mathlib.Core.Path.{_≡_, refl}
 use mathlib.Core.Bool.{Bool}
-use mathlib.Core.List.{List, [], _∷_, List·Memᴰ as Mem, List·Memᴰ·head as here, List·Memᴰ·tail as there}
+use mathlib.Core.List.{List, [], _∷_, List·Memᴰ·head as here, List·Memᴰ·tail as there}
 use Prim.Native.Nat.{ℕ, _≤_, _<_}
 use native.Mathlib.Omega.{arith}
 use lib.Dec.{T, ltb, ltb→lt}
@@ -9,9 +9,24 @@ use lib.ListN.{length}
 use Rattle.order.specs.Order.{All, Chain, more}
 use Rattle.paths.specs.Graph.{Graph, Link, one, step, Thread, Apart, Cover, Smallest, Furthest, Loop}
 use Rattle.paths.proofs.Furthest.{furthest-unique}
-use Rattle.paths.proofs.Checker.{linked, linked-all, rises, rises-right, each, each-right, Settled, settledTest, settled-right, loopTest, loop-right, coverTest, cover-right}
+use Rattle.paths.proofs.Checker.{
+  linked,
+  linked-all,
+  rises,
+  rises-right,
+  each,
+  each-right,
+  Settled,
+  settledTest,
+  settled-right,
+  loopTest,
+  loop-right,
+  coverTest,
+  cover-right,
+}
 
--- a graph, a smallest cover, its furthest apart set, and for each member of it the threads that show that no largest one avoids it and all before it
+-- A graph, a smallest cover, its furthest apart set, and for each member of it threads, fewer than the members, that hold every
+-- episode but the member and those with a way to it.
 pub record Row : Type 0 where
   pub graph : Graph
   pub threads : List (List ℕ)
@@ -152,6 +167,7 @@ unfolding rises
 furthest-is-one f =
     let other : List ℕ = 0 ∷ 2 ∷ 4 ∷ [] in
     let w = worked whole-row (there (there (here refl))) in
-    let same : other ≡ whole-row .apart = furthest-unique (w .acyclic) other (whole-row .apart) f (w .furthest) (rises-right other tt) (w .rising) in
+    let same : other ≡ whole-row .apart =
+    furthest-unique (w .acyclic) other (whole-row .apart) f (w .furthest) (rises-right other tt) (w .rising) in
     let first : _≡_ {A = ℕ} 0 1 = cc in
     omega arith

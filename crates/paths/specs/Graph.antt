@@ -1,5 +1,5 @@
--- A log's graph, its threads, covers, apart sets and loops. Each line says in the words of the scope what a definition is, and behind the
--- colon which term of the field that is.
+-- A log's graph, its threads, covers, apart sets and loops. The line above a definition says what it is in the words of the scope
+-- and, behind the colon, which term of the field that is.
 use mathlib.Core.Path.{_≡_}
 use mathlib.Core.Logic.{_⊎_}
 use mathlib.Core.List.{List, [], _∷_, _++_, List·Memᴰ as Mem, List·Nodup, IsChain}
