@@ -6,7 +6,6 @@ use mathlib.Core.List.{
   [],
   _∷_,
   List·Memᴰ as Mem,
-  List·Memᴰ·tail as there,
   List·Memᴰ·not-nil as not-nil,
   List·Memᴰ·cases-cons as mem-cases,
   List·Memᴰ·eq-of-singleton as eq-of-singleton,
@@ -15,7 +14,7 @@ use mathlib.Core.List.{
   Pairwise·sublistᴰ,
 }
 use Rattle.order.specs.Order.{All, Transitive, StrictOrder, Chain, single, more, Antichain}
-use Rattle.order.proofs.Lists.{all-nil, all-cons, nodup-cons, nodup-tail, without, without-mem, without-sublist}
+use Rattle.order.proofs.Lists.{all-nil, all-cons, nodup-cons, without, without-mem, without-sublist}
 
 module _ {A : Type 0} {R : A → A → Type 0} where
   pub not-empty : Chain R [] → ⊥
@@ -28,9 +27,6 @@ module _ {A : Type 0} {R : A → A → Type 0} where
   pub chain-map : {S : A → A → Type 0} → ((a b : A) → R a b → S a b) → {l : List A} → Chain R l → Chain S l
   chain-map f single = single
   chain-map f (more {a = a} {b = b} r c) = more (f a b r) (chain-map f c)
-
-  pub antichain-tail : {a : A} {s : List A} → Antichain R (a ∷ s) → Antichain R s
-  antichain-tail h = record { once = nodup-tail (h .once); apart = λ m n. h .apart (there m) (there n) }
 
   pub antichain-without : (dec : Discrete A) (D s : List A) → Antichain R s → Antichain R (without dec D s)
   antichain-without dec D s h =

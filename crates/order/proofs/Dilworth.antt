@@ -18,7 +18,6 @@ use mathlib.Core.List.{
   List·Memᴰ·eq-of-singleton as eq-of-singleton,
   Memᴰ·cast,
   List·Nodup,
-  List-discrete,
   Pairwise·nil,
   Pairwise·cons,
   Pairwise·sublistᴰ,
@@ -39,9 +38,13 @@ use Rattle.order.proofs.Lists.{
   without-mem,
   mem-without,
   without-none,
-  without-sublist,
   length-without,
   length-without-lt,
+  others,
+  others-mem,
+  others-sublist,
+  length-others,
+  on-others,
 }
 use Rattle.order.proofs.Chains.{chain-tail, chain-first}
 use Rattle.order.proofs.Pigeonhole.{antichain-le-chains}
@@ -211,40 +214,27 @@ module _ {A : Type 0} {R : A → A → Type 0} (dec : Discrete A) (decR : (a b :
           behind = all-cons r (λ x z. order .transitive h h′ x r (chain-first (order .transitive) (q .is-chain) x z)) y n
 
   -- the chains other than `c`
-  others : {Y : List A} (d : Dilworth R Y) → {c : List A} → Mem c (d .chains) → Few R (without dec c Y) (length (d .chains))
-  others {Y} d {c} m =
+  all-but : {Y : List A} (d : Dilworth R Y) → {c : List A} → Mem c (d .chains) → Few R (without dec c Y) (length (d .chains))
+  all-but {Y} d {c} m =
       record {
-        chains = left;
+        chains = others dec c (d .chains);
         partition = record {
           chains = λ l q. p .chains l (in-chains q);
           within = λ l q x xl. mem-without dec c Y (p .within l (in-chains q) x xl) (apart-c q xl);
-          disjoint = Pairwise·sublistᴰ (without-sublist same-list (c ∷ []) (d .chains)) (p .disjoint);
-          covered = on-left;
+          disjoint = Pairwise·sublistᴰ (others-sublist dec c (d .chains)) (p .disjoint);
+          covered = λ x q. let h = without-mem dec c Y q in on-others dec c (d .chains) (h .1) (p .covered x (h .0));
         };
-        fewer = length-without-lt same-list (c ∷ []) (d .chains) m (here refl);
+        fewer = length-others dec c (d .chains) m;
       }
     where
       p : ChainPartition R Y (d .chains)
       p = d .partition
 
-      same-list : Discrete (List A)
-      same-list = List-discrete dec
+      in-chains : {l : List A} → Mem l (others dec c (d .chains)) → Mem l (d .chains)
+      in-chains q = others-mem dec c (d .chains) q .0
 
-      left : List (List A)
-      left = without same-list (c ∷ []) (d .chains)
-
-      in-chains : {l : List A} → Mem l left → Mem l (d .chains)
-      in-chains q = without-mem same-list (c ∷ []) (d .chains) q .0
-
-      apart-c : {l : List A} {x : A} → Mem l left → Mem x l → Mem x c → ⊥
-      apart-c q = disjoint-apart (p .disjoint) (in-chains q) m (λ e. without-mem same-list (c ∷ []) (d .chains) q .1 (here e))
-
-      on-left : All (On left) (without dec c Y)
-      on-left x q =
-          let h = without-mem dec c Y q in
-          let o = p .covered x (h .0) in
-          let not-c : Mem (o .0) (c ∷ []) → ⊥ = λ e. h .1 (subst (λ (l : List A). Mem x l) (eq-of-singleton e) (o .2)) in
-          (o .0, mem-without same-list (c ∷ []) (d .chains) (o .1) not-c, o .2)
+      apart-c : {l : List A} {x : A} → Mem l (others dec c (d .chains)) → Mem x l → Mem x c → ⊥
+      apart-c q = disjoint-apart (p .disjoint) (in-chains q) m (others-mem dec c (d .chains) q .1)
 
   -- one element more than `Y`, of which `d` is known
   module _ {X Y : List A} {a : A} (min : Minimal R X a Y) (d : Dilworth R Y) where
@@ -384,7 +374,7 @@ module _ {A : Type 0} {R : A → A → Type 0} (dec : Discrete A) (decR : (a b :
       cut-all (x ∷ D) chain few = cut Y (length (d .chains)) smaller-Y not-few (x ∷ D) x D chain (λ y n. n) few
 
       hs : Heads R dec Y (length (d .chains)) (d .chains)
-      hs = heads (d .chains) (d .partition .disjoint) (λ c n. cut-all c (d .partition .chains c n) (others d n))
+      hs = heads (d .chains) (d .partition .disjoint) (λ c n. cut-all c (d .partition .chains c n) (all-but d n))
 
       go : ((h : A) × Mem h (hs .list) × R a h) ⊎ All (λ h. R a h → ⊥) (hs .list) → Dilworth R X
       go (inl (h, n, r)) = let t = hs .from h n in lengthened min d (t .1) (t .2) r

@@ -1,6 +1,6 @@
 -- Lists with a decidable membership: the members of one list that another does not have.
 use mathlib.Core.Path.{_≡_, refl, sym, ap, subst}
-use mathlib.Core.Logic.{_⊎_, inl, inr, ⊎-elim}
+use mathlib.Core.Logic.{_≢_, _⊎_, inl, inr, ⊎-elim}
 use mathlib.Core.HLevel.{⊥-prop}
 use mathlib.Core.List.{
   List,
@@ -15,6 +15,7 @@ use mathlib.Core.List.{
   List·Memᴰ·eq-of-singleton as eq-of-singleton,
   List·Memᴰ·append-cases as append-cases,
   Memᴰ·cast,
+  List-discrete,
   List·Nodup,
   Pairwise·cons,
   Sublistᴰ,
@@ -173,3 +174,26 @@ module _ {A : Type 0} (dec : Discrete A) where
       nodup-le l (without (a ∷ []) X) (nodup-tail p)
       (λ x m. mem-without (a ∷ []) X (h x (there m)) (λ q. nodup-head p (Memᴰ·cast (sym (eq-of-singleton q)) m))) in
       omega arith
+
+-- the lists of `cs` other than `c`
+module _ {A : Type 0} (dec : Discrete A) (c : List A) (cs : List (List A)) where
+  pub others : List (List A)
+  others = without (List-discrete dec) (c ∷ []) cs
+
+  pub others-mem : {l : List A} → Mem l others → Mem l cs × (l ≢ c)
+  unfolding others
+  others-mem m = let h = without-mem (List-discrete dec) (c ∷ []) cs m in (h .0, λ e. h .1 (here e))
+
+  pub others-sublist : Sublistᴰ others cs
+  unfolding others
+  others-sublist = without-sublist (List-discrete dec) (c ∷ []) cs
+
+  pub length-others : Mem c cs → length others < length cs
+  unfolding others
+  length-others m = length-without-lt (List-discrete dec) (c ∷ []) cs m (here refl)
+
+  -- what is on one of the lists and not in `c` is on one of the others
+  pub on-others : {x : A} → (Mem x c → ⊥) → On cs x → On others x
+  unfolding others
+  on-others {x} nc (l, m, n) =
+      (l, mem-without (List-discrete dec) (c ∷ []) cs m (λ q. nc (subst (λ (k : List A). Mem x k) (eq-of-singleton q) n)), n)

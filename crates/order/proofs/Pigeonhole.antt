@@ -11,14 +11,12 @@ use mathlib.Core.List.{
   List·Memᴰ·tail as there,
   List·Memᴰ·not-nil as not-nil,
   List·Memᴰ·cases-cons as mem-cases,
-  List·Memᴰ·eq-of-singleton as eq-of-singleton,
-  List-discrete,
 }
 use Prim.Native.Nat.{suc, _≤_, _<_, zero-le}
 use native.Mathlib.Omega.{arith}
 use lib.ListN.{length}
 use Rattle.order.specs.Order.{All, On, Transitive, Chain, Antichain, HoldsOne}
-use Rattle.order.proofs.Lists.{find, decMem, without, without-mem, mem-without, length-without-lt, length-without-one}
+use Rattle.order.proofs.Lists.{find, decMem, without, without-mem, length-without-one, others, others-mem, length-others, on-others}
 use Rattle.order.proofs.Chains.{antichain-without, on-one-chain}
 
 module _ {A : Type 0} {R : A → A → Type 0} (dec : Discrete A) (trans : Transitive R) where
@@ -31,34 +29,26 @@ module _ {A : Type 0} {R : A → A → Type 0} (dec : Discrete A) (trans : Trans
       length-without-one dec c s (anti .once)
       (λ x y xs ys xc yc. on-one-chain trans dec (chains c (here refl)) anti xs ys xc yc) in
       let rest : length (without dec c s) ≤ length cs =
-      antichain-le-chains cs (without dec c s) (λ l m. chains l (there m)) (antichain-without dec c s anti) on-others in
+      antichain-le-chains cs (without dec c s) (λ l m. chains l (there m)) (antichain-without dec c s anti) on-rest in
       omega arith
     where
       other : (x : A) → (Mem x c → ⊥) → On (c ∷ cs) x → On cs x
       other x nc o = ⊎-elim (λ e. absurd (nc (subst (λ (l : List A). Mem x l) e (o .2)))) (λ m. (o .0, m, o .2)) (mem-cases (o .1))
 
-      on-others : All (On cs) (without dec c s)
-      on-others x m = let h = without-mem dec c s m in other x (h .1) (on x (h .0))
+      on-rest : All (On cs) (without dec c s)
+      on-rest x m = let h = without-mem dec c s m in other x (h .1) (on x (h .0))
 
   -- where chains and members are as many, each chain holds exactly one member: without a chain that holds none, there were too few
   pub chain-holds-one : (cs : List (List A)) (s : List A) → All (Chain R) cs → Antichain R s → All (On cs) s → length s ≡ length cs
       → All (HoldsOne s) cs
   chain-holds-one cs s chains anti on same c m = go (find (λ x. decMem dec x c) s)
     where
-      fewer : List (List A)
-      fewer = without (List-discrete dec) (c ∷ []) cs
-
-      on-fewer : All (λ x. Mem x c → ⊥) s → All (On fewer) s
-      on-fewer h x xs =
-          let o = on x xs in
-          let not-c : Mem (o .0) (c ∷ []) → ⊥ = λ q. h x xs (subst (λ (l : List A). Mem x l) (eq-of-singleton q) (o .2)) in
-          (o .0, mem-without (List-discrete dec) (c ∷ []) cs (o .1) not-c, o .2)
-
       go : ((x : A) × Mem x s × Mem x c) ⊎ All (λ x. Mem x c → ⊥) s → HoldsOne s c
       go (inl t) = (t .0, t .1, t .2, λ y ys yc. on-one-chain trans dec (chains c m) anti ys (t .1) yc (t .2))
       go (inr h) =
-          let short : length fewer < length cs = length-without-lt (List-discrete dec) (c ∷ []) cs m (here refl) in
-          let enough : length s ≤ length fewer =
-          antichain-le-chains fewer s (λ l q. chains l (without-mem (List-discrete dec) (c ∷ []) cs q .0)) anti (on-fewer h) in
+          let short : length (others dec c cs) < length cs = length-others dec c cs m in
+          let enough : length s ≤ length (others dec c cs) =
+          antichain-le-chains (others dec c cs) s (λ l q. chains l (others-mem dec c cs q .0)) anti
+          (λ x xs. on-others dec c cs (h x xs) (on x xs)) in
           let none : ⊥ = omega arith in
           absurd none

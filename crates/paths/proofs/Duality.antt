@@ -46,7 +46,10 @@ module _ {g : Graph} where
       record {
         threads = filled .threads;
         apart = parts .antichain;
-        is-cover = record { threads = filled .are-threads; whole = λ v h. filled .hold v (parts .partition .covered v (lt-below (g .n) h)) };
+        is-cover = record {
+          threads = filled .are-threads;
+          whole = λ v h. filled .hold v (parts .partition .covered v (lt-below (g .n) h));
+        };
         is-apart = record { episodes = λ v m. below-lt (g .n) v (parts .within v m); antichain = parts .is-antichain };
         same = filled .same ∙ parts .same;
       }

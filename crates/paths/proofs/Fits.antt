@@ -11,7 +11,6 @@ use mathlib.Core.List.{
   List·Memᴰ·tail as there,
   List·Memᴰ·append-cases as append-cases,
   List·Nodup,
-  Pairwise·sublistᴰ,
 }
 use Prim.Native.Nat.{ℕ, suc, zero-le, _+_, _-_, _*_, _/_, _≤_, _<_}
 use native.Mathlib.Decide.{ℕ-discrete, decLe}

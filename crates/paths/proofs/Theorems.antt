@@ -7,7 +7,7 @@ use Prim.Native.Nat.{ℕ, _+_, _-_, _*_, _/_, _≤_, _<_}
 use native.Mathlib.Omega.{arith}
 use lib.ListN.{length}
 use Rattle.order.specs.Order.{All, StrictOrder, Chain, HoldsOne, Dilworth}
-use Rattle.order.proofs.Dilworth as Galvin
+use Rattle.order.proofs.Dilworth as Order-dilworth
 use Rattle.paths.specs.Graph.{
   Graph,
   Episode,
@@ -46,7 +46,7 @@ one-member-each = Duality.holds-one
 -- part the list among them and an antichain in it, as many as each other.
 pub dilworth : {A : Type 0} {R : A → A → Type 0} → Discrete A → ((a b : A) → Dec (R a b)) → StrictOrder R
     → (X : List A) → Dilworth R X
-dilworth = Galvin.dilworth
+dilworth = Order-dilworth.dilworth
 
 -- 3. Whether one episode has a way to another can be decided.
 pub way-decidable : (g : Graph) → EndsBelow g → (a b : ℕ) → Dec (Way g a b)

@@ -26,14 +26,10 @@ module _ {g : Graph} where
   pub way-order : Acyclic g → StrictOrder (Way g)
   way-order acyclic = record { irreflexive = acyclic; transitive = way-trans }
 
-  -- both ends of a way are episodes
+  -- a way starts at an episode
   pub way-first : {a b : ℕ} → EndsBelow g → Way g a b → Episode g a
   way-first ends (one l) = ends _ _ l .0
   way-first ends (step l w) = ends _ _ l .0
-
-  pub way-last : {a b : ℕ} → EndsBelow g → Way g a b → Episode g b
-  way-last ends (one l) = ends _ _ l .1
-  way-last ends (step l w) = way-last ends w
 
 module _ (g : Graph) where
   pub decLink : (a b : ℕ) → Dec (Link g a b)

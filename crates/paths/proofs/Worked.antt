@@ -1,4 +1,4 @@
--- The worked graphs of the scope and its four false readings, by the tests that compute.
+-- The worked graphs of the scope, and its false readings, each shown not to meet the definitions.
 use mathlib.Core.Path.{_≡_, refl}
 use mathlib.Core.Bool.{Bool}
 use mathlib.Core.List.{List, [], _∷_, List·Memᴰ·head as here, List·Memᴰ·tail as there}
@@ -45,7 +45,7 @@ crossing = graph 5 ((0, 2) ∷ (1, 2) ∷ (2, 3) ∷ (2, 4) ∷ [])
 abbrev pub line : Graph
 line = graph 3 ((0, 1) ∷ (1, 2) ∷ [])
 
-abbrev whole-row : Row
+abbrev pub whole-row : Row
 whole-row =
     record {
       graph = whole;
@@ -54,7 +54,7 @@ whole-row =
       behind = ((2 ∷ 3 ∷ []) ∷ (4 ∷ []) ∷ []) ∷ ((0 ∷ 1 ∷ []) ∷ (4 ∷ []) ∷ []) ∷ ((0 ∷ 1 ∷ []) ∷ (2 ∷ 3 ∷ []) ∷ []) ∷ [];
     }
 
-abbrev rows : List Row
+abbrev pub rows : List Row
 rows =
     record { graph = graph 0 []; threads = []; apart = []; behind = [] }
     ∷ record { graph = graph 1 []; threads = (0 ∷ []) ∷ []; apart = 0 ∷ []; behind = [] ∷ [] }
@@ -97,7 +97,7 @@ pub record LoopRow : Type 0 where
   pub graph : Graph
   pub loop : List ℕ
 
-abbrev loop-rows : List LoopRow
+abbrev pub loop-rows : List LoopRow
 loop-rows =
     record { graph = graph 2 ((0, 1) ∷ (1, 0) ∷ []); loop = 0 ∷ 1 ∷ [] }
     ∷ record { graph = graph 1 ((0, 0) ∷ []); loop = 0 ∷ [] }
@@ -114,8 +114,6 @@ loop-rows-pass = tt
 pub worked-loops : All (λ r. Loop (r .graph) (r .loop)) loop-rows
 unfolding loopRowTest
 worked-loops r m = loop-right (r .graph) (r .loop) (each-right loopRowTest loop-rows loop-rows-pass r m)
-
--- The false readings: what each gives is no smallest cover, no apart set or not the furthest here.
 
 -- a cover with more threads than another is not smallest
 larger-cover : {g : Graph} (ts us : List (List ℕ)) → Cover g us → T (ltb (length us) (length ts)) → Smallest g ts → ⊥
