@@ -25,7 +25,7 @@ use Rattle.paths.proofs.Ways.{way-trans, way-order}
 use Rattle.paths.proofs.Threads.{thread-chain}
 use Rattle.paths.proofs.Numbers.{nodup-below}
 
--- 4ab ≤ (a + b)², for a ≤ b
+-- 4ab ≤ (a + b)², with b written as a + d
 square-le : (a d : ℕ) → 4 * (a * (a + d)) ≤ (a + (a + d)) * (a + (a + d))
 square-le a d =
     omega (
@@ -40,6 +40,7 @@ square-le a d =
       mul-comm d a,
     )
 
+-- 4ab ≤ (a + b)², for a ≤ b
 ordered-le : (a b : ℕ) → a ≤ b → 4 * (a * b) ≤ (a + b) * (a + b)
 ordered-le a b h =
     let e : a + (b - a) ≡ b = omega arith in

@@ -25,7 +25,8 @@ use Rattle.order.proofs.Lists.{all-nil, all-cons, decMem, nodup-cons, nodup-hea
 use Rattle.paths.specs.Graph.{Graph, Episode, Link, EndsBelow, Way, one, step, Acyclic, Loop}
 use Rattle.paths.proofs.Ways.{way-first, decWay}
 
--- the part of a walk from `a` on before it comes to `x`, behind `a` a part of `t`
+-- A walk from `a` along members of `t` that ends at `x`: `part` is what stands between the two, and where `t` has no element
+-- twice, neither has `part`, nor does it hold `x`.
 record Before {A : Type 0} (R : A → A → Type 0) (a x : A) (t : List A) : Type 0 where
   part : List A
   walk : Chain R ((a ∷ part) ++ x ∷ [])

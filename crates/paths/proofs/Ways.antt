@@ -1,5 +1,6 @@
 -- Ways: they compose, and whether there is one can be decided.
-use mathlib.Core.Path.{_≡_, ap, subst}
+use mathlib.Core.Path.{_≡_, subst}
+use mathlib.Core.HLevel.{×-discrete}
 use mathlib.Core.Logic.{_⊎_, inl, inr, ⊎-elim}
 use Prim.Native.Nat.{ℕ, zero, suc, _<_}
 use native.Mathlib.Decide.{ℕ-discrete}
@@ -8,15 +9,6 @@ use Rattle.order.specs.Order.{Transitive, StrictOrder}
 use Rattle.order.proofs.Lists.{decMem}
 use Rattle.paths.specs.Graph.{Graph, Episode, Link, EndsBelow, Way, one, step, Acyclic}
 use Rattle.paths.specs.Closure.{WayBelow}
-
--- two links are compared end by end
-pub decPair : Discrete (ℕ × ℕ)
-decPair p q = go (ℕ-discrete (p .0) (q .0)) (ℕ-discrete (p .1) (q .1))
-  where
-    go : Dec (p .0 ≡ q .0) → Dec (p .1 ≡ q .1) → Dec (p ≡ q)
-    go (yes e) (yes f) = yes (λ i. (e i, f i))
-    go (yes e) (no nf) = no (λ h. nf (ap (λ (r : ℕ × ℕ). r .1) h))
-    go (no ne) f = no (λ h. ne (ap (λ (r : ℕ × ℕ). r .0) h))
 
 module _ {g : Graph} where
   pub way-trans : Transitive (Way g)
@@ -33,7 +25,7 @@ module _ {g : Graph} where
 
 module _ (g : Graph) where
   pub decLink : (a b : ℕ) → Dec (Link g a b)
-  decLink a b = decMem decPair (a, b) (g .links)
+  decLink a b = decMem (×-discrete ℕ-discrete ℕ-discrete) (a, b) (g .links)
 
   -- whether there is a way with inner episodes below `k`
   pub decWayBelow : (k a b : ℕ) → Dec (WayBelow g k a b)
