@@ -1,0 +1,99 @@
+-- Questions 4 to 8 by the kind of the word.
+use mathlib.Core.Path.{_≡_, refl, _∙_, ap, sym}
+use mathlib.Core.Logic.{_⊎_, inl, inr}
+use mathlib.Core.Bool.{Bool, true, false, _&&_, true≢false}
+use mathlib.Core.List.{List}
+use Prim.Native.Nat.{ℕ, _+_, _<_}
+use native.Mathlib.Omega.{arith}
+use native.Mathlib.Nat.{add-zero}
+use native.Mathlib.Numerals.{add-one}
+use lib.Dec.{ltb, leb, eqb}
+use lib.ListN.{length, getD, drop, length-drop}
+use lib.Seq.{getD-drop}
+use borrow.Author.Tests.{lt-ltb, le-ltb, ltb-true, ltb-false, eqb-true, eqb-false, ne-eqb}
+use Rattle.log.specs.Words.{kind, number}
+use Rattle.log.specs.Answer.{Answer, given, refused, question}
+use Rattle.log.specs.Log.{toBeforeLast, groupWord}
+use Rattle.log.specs.declared.Ceilings.{Ceilings}
+
+-- two tests whose facts follow from each other
+same-test : (a b c d : ℕ) → (a < b → c < d) → (c < d → a < b) → ltb a b ≡ ltb c d
+same-test a b c d there back = by-value (ltb a b) (ltb c d) refl refl
+  where
+    by-value : (x y : Bool) → ltb a b ≡ x → ltb c d ≡ y → ltb a b ≡ ltb c d
+    by-value true y e f = e ∙ sym (lt-ltb c d (there (ltb-true a b e)))
+    by-value false true e f = lt-ltb a b (back (ltb-true c d f)) ∙ sym f
+    by-value false false e f = e ∙ sym f
+
+-- question 6 asks of the words behind a word what it could ask of the log
+pub behind : (l : List ℕ) (p : ℕ) → toBeforeLast (drop p l) 0 ≡ toBeforeLast l p
+behind l p =
+    rw (getD-drop, add-zero)
+    (ap (λ (b : Bool). b && eqb (kind (getD l p 0)) 3)
+    (same-test 1 (length (drop p l)) (p + 1) (length l) (λ h. omega (arith, length-drop p l)) (λ h. omega (arith, length-drop p l))))
+
+-- what `toBeforeLast` tests
+pub to-there : (l : List ℕ) (p : ℕ) → toBeforeLast l p ≡ true → (p + 1 < length l) × (kind (getD l p 0) ≡ 3)
+to-there l p e = by-value (ltb (p + 1) (length l)) refl
+  where
+    by-value : (b : Bool) → ltb (p + 1) (length l) ≡ b → (p + 1 < length l) × (kind (getD l p 0) ≡ 3)
+    by-value true f = (ltb-true (p + 1) (length l) f, eqb-true (kind (getD l p 0)) 3 (rw f at e))
+    by-value false f = absurd (true≢false (sym (rw f at e)))
+
+pub there-to : (l : List ℕ) (p : ℕ) → p + 1 < length l → kind (getD l p 0) ≡ 3 → toBeforeLast l p ≡ true
+there-to l p h e = rw (lt-ltb _ _ h, e)
+
+-- a question that is followed by an answer was answered yes
+pub asked : {A : Type 0} (k p : ℕ) (b : Bool) (next : Answer A) (a : A) → question k p b next ≡ given a → (b ≡ true) × (next ≡ given a)
+asked k p true next a e = (refl, e)
+asked k p false next a e = let none : _≡_ {A = ℕ} 0 1 = cc in absurd (omega arith)
+
+module _ (m : Ceilings) (n p w : ℕ) (rest : List ℕ) (from : Bool) (t : ℕ) where
+  pub group-from : kind w ≡ 2
+      → groupWord m n p w rest from t ≡ question 6 p (toBeforeLast rest 0) (question 7 p (ltb (number w) n) (given (2, number w)))
+  unfolding groupWord
+  group-from e = rw e
+
+  pub group-to : kind w ≡ 3
+      → groupWord m n p w rest from t
+      ≡ question 5 p from (question 7 p (ltb (number w) n) (question 8 p (ltb t (m .words)) (given (3, number w))))
+  unfolding groupWord
+  group-to e = rw (e, add-one)
+
+  pub group-other : (kind w ≡ 2 → ⊥) → (kind w ≡ 3 → ⊥) → groupWord m n p w rest from t ≡ refused 4 p
+  unfolding groupWord
+  group-other no-from no-to = rw (ne-eqb _ _ no-from, ne-eqb _ _ no-to)
+
+-- what the questions say of a from word that is taken, and of a to word
+pub record FromTaken (n w : ℕ) (rest : List ℕ) : Type 0 where
+  pub is-from : kind w ≡ 2
+  pub to-follows : toBeforeLast rest 0 ≡ true
+  pub below : number w < n
+
+pub record ToTaken (m : Ceilings) (n w : ℕ) (from : Bool) (t : ℕ) : Type 0 where
+  pub is-to : kind w ≡ 3
+  pub from-before : from ≡ true
+  pub below : number w < n
+  pub room : t < m .words
+
+pub group-taken : (m : Ceilings) (n p w : ℕ) (rest : List ℕ) (from : Bool) (t : ℕ) (a : ℕ × ℕ)
+    → groupWord m n p w rest from t ≡ given a → FromTaken n w rest ⊎ ToTaken m n w from t
+group-taken m n p w rest from t a e = by-kind (eqb (kind w) 2) (eqb (kind w) 3) refl refl
+  where
+    by-kind : (x y : Bool) → eqb (kind w) 2 ≡ x → eqb (kind w) 3 ≡ y → FromTaken n w rest ⊎ ToTaken m n w from t
+    by-kind true y f g =
+        let is-from = eqb-true (kind w) 2 f in
+        let six = asked 6 p (toBeforeLast rest 0) (question 7 p (ltb (number w) n) (given (2, number w))) a (sym (group-from m n p w rest from t is-from) ∙ e) in
+        let seven = asked 7 p (ltb (number w) n) (given (2, number w)) a (six .1) in
+        inl (record { is-from = is-from; to-follows = six .0; below = ltb-true (number w) n (seven .0) })
+    by-kind false true f g =
+        let is-to = eqb-true (kind w) 3 g in
+        let next : Answer (ℕ × ℕ) = question 8 p (ltb t (m .words)) (given (3, number w)) in
+        let five = asked 5 p from (question 7 p (ltb (number w) n) next) a (sym (group-to m n p w rest from t is-to) ∙ e) in
+        let seven = asked 7 p (ltb (number w) n) next a (five .1) in
+        let eight = asked 8 p (ltb t (m .words)) (given (3, number w)) a (seven .1) in
+        inr (record { is-to = is-to; from-before = five .0; below = ltb-true (number w) n (seven .0); room = ltb-true t (m .words) (eight .0) })
+    by-kind false false f g =
+        let four = group-other m n p w rest from t (eqb-false (kind w) 2 f) (eqb-false (kind w) 3 g) in
+        let none : _≡_ {A = ℕ} 0 1 = cc in
+        absurd (omega arith)

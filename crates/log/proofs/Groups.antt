@@ -1,0 +1,97 @@
+-- Passing over the groups of a log: what holds where a group begins or the log ends, what holds among the to words of a group, and
+-- what it takes to go on or to stop.
+use mathlib.Core.Path.{_≡_, refl, _∙_, ap, sym}
+use mathlib.Core.Logic.{_⊎_, inl, inr, ⊎-elim}
+use mathlib.Core.Bool.{Bool, true, false, true≢false}
+use mathlib.Core.List.{List}
+use Prim.Native.Nat.{ℕ, _+_, _<_, _≤_}
+use native.Mathlib.Omega.{arith}
+use lib.Dec.{ltb}
+use lib.ListN.{length, getD, drop}
+use borrow.Author.Tests.{lt-ltb, ltb-true}
+use Rattle.log.specs.Words.{kind}
+use Rattle.log.specs.Answer.{wordAnswer}
+use Rattle.log.specs.Log.{toBeforeLast, groupWord, onwardsAt, Stopped}
+use Rattle.log.specs.declared.LogWord.{LogWord}
+use Rattle.log.specs.declared.LogWord.the-variants.{Taken, GivenUp}
+use Rattle.log.specs.declared.Ceilings.{Ceilings}
+use Rattle.log.proofs.Asked.{to-there, there-to, group-taken, FromTaken, ToTaken}
+use Rattle.log.proofs.Places.{stop-last, stop-refused, step-from, step-to}
+
+-- at `p` a group begins, or the last word stands
+pub record AtGroup (m : Ceilings) (l : List ℕ) (n p t : ℕ) : Type 0 where
+  pub behind-head : 0 < p
+  pub within : p < length l
+  pub few : t < p
+  pub same : onwardsAt m l n p (ltb 1 p) t ≡ onwardsAt m l n 1 false 0
+  pub begins : (p ≡ 1) ⊎ (toBeforeLast l p ≡ false)
+
+-- the words of a group have been passed over up to `p`, its from word among them
+pub record InGroup (m : Ceilings) (l : List ℕ) (n p t : ℕ) : Type 0 where
+  pub behind-from : 1 < p
+  pub within : p < length l
+  pub few : t < p
+  pub same : onwardsAt m l n p true t ≡ onwardsAt m l n 1 false 0
+
+pub first-group : (m : Ceilings) (l : List ℕ) (n : ℕ) → 2 ≤ length l → AtGroup m l n 1 0
+first-group m l n h = record { behind-head = omega arith; within = omega arith; few = omega arith; same = refl; begins = inl refl }
+
+module _ (m : Ceilings) (l : List ℕ) (n p t : ℕ) where
+  -- a to word does not stand where a group begins: question 5 refuses it as word 1, and behind another group it would be of that group
+  no-to : AtGroup m l n p t → p + 1 < length l → ToTaken m n (getD l p 0) (ltb 1 p) t → ⊥
+  no-to g h taken =
+      let after : 1 < p = ltb-true 1 p (taken .from-before) in
+      ⊎-elim (λ first. omega arith) (λ other. true≢false (sym (there-to l p h (taken .is-to)) ∙ other)) (g .begins)
+
+  pub group-ends : (b : Bool) → InGroup m l n p t → b ≡ toBeforeLast l p → b ≡ false → AtGroup m l n p t
+  group-ends b g h none =
+      record {
+        behind-head = omega arith;
+        within = g .within;
+        few = g .few;
+        same = rw (lt-ltb 1 p (g .behind-from)) (g .same);
+        begins = inr (sym h ∙ none);
+      }
+
+  pub at-last : AtGroup m l n p t → length l ≤ p + 1 → Stopped m l n p t
+  at-last g h = record { within = g .within; answer = sym (g .same) ∙ stop-last m l n p (ltb 1 p) t h }
+
+  module _ (r : LogWord) (k x : ℕ) where
+    pub from-taken : AtGroup m l n p t → p + 1 < length l → wordAnswer r ≡ groupWord m n p (getD l p 0) (drop (p + 1) l) (ltb 1 p) t
+        → r ≡ Taken k x → InGroup m l n (p + 1) t
+    from-taken g h e is =
+        let passed = sym e ∙ ap wordAnswer is in
+        ⊎-elim
+        (λ taken. record {
+          behind-from = omega arith;
+          within = h;
+          few = omega arith;
+          same = sym (step-from m l n p (ltb 1 p) t (k, x) h passed (taken .is-from)) ∙ g .same;
+        })
+        (λ taken. absurd (no-to g h taken))
+        (group-taken m n p (getD l p 0) (drop (p + 1) l) (ltb 1 p) t (k, x) passed)
+
+    pub from-given-up : AtGroup m l n p t → p + 1 < length l → wordAnswer r ≡ groupWord m n p (getD l p 0) (drop (p + 1) l) (ltb 1 p) t
+        → r ≡ GivenUp k x → Stopped m l n p t
+    from-given-up g h e is =
+        record { within = g .within; answer = sym (g .same) ∙ stop-refused m l n p (ltb 1 p) t k x h (sym e ∙ ap wordAnswer is) }
+
+    module _ (b : Bool) (g : InGroup m l n p t) (h : b ≡ toBeforeLast l p) (yes : b ≡ true)
+        (e : wordAnswer r ≡ groupWord m n p (getD l p 0) (drop (p + 1) l) true t) where
+      pub to-taken : r ≡ Taken k x → InGroup m l n (p + 1) (t + 1)
+      to-taken is =
+          let there = to-there l p (sym h ∙ yes) in
+          record {
+            behind-from = omega arith;
+            within = there .0;
+            few = omega arith;
+            same = sym (step-to m l n p true t (k, x) (there .0) (sym e ∙ ap wordAnswer is) (there .1)) ∙ g .same;
+          }
+
+      pub to-given-up : r ≡ GivenUp k x → Stopped m l n p t
+      to-given-up is =
+          let there = to-there l p (sym h ∙ yes) in
+          record {
+            within = g .within;
+            answer = rw (lt-ltb 1 p (g .behind-from)) (sym (g .same) ∙ stop-refused m l n p true t k x (there .0) (sym e ∙ ap wordAnswer is));
+          }

@@ -1,0 +1,5 @@
+-- What the proofs of the functions cite, and the laws of a log that passes questions 1 to 10.
+pub mod Asked
+pub mod Places
+pub mod Groups
+pub mod Whole

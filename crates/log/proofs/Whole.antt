@@ -1,0 +1,53 @@
+-- Questions 1 to 10 of the whole log, from the answers of its head and of the word at which the loops over its groups stop.
+use mathlib.Core.Path.{_≡_, refl, _∙_, ap, sym}
+use mathlib.Core.Bool.{false}
+use mathlib.Core.List.{List, [], _∷_}
+use Prim.Native.Nat.{ℕ, _<_, _≤_}
+use native.Mathlib.Omega.{arith}
+use lib.Dec.{ltb, leb, eqb}
+use lib.ListN.{length, getD}
+use Rattle.log.specs.Words.{kind, number}
+use Rattle.log.specs.Answer.{Answer, given, refused, question, andThen, wordAnswer, readAnswer}
+use Rattle.log.specs.Log.{headWord, logWordAt, onwardsAt, questions, Stopped}
+use Rattle.log.specs.declared.LogWord.{LogWord}
+use Rattle.log.specs.declared.LogWord.the-variants.{Taken, GivenUp}
+use Rattle.log.specs.declared.Ceilings.{Ceilings}
+use Rattle.log.proofs.Asked.{asked}
+
+pub too-short : (m : Ceilings) (l : List ℕ) → length l < 2 → questions m l ≡ refused 1 0
+unfolding questions
+too-short m [] h = refl
+too-short m (w ∷ []) h = refl
+too-short m (w ∷ x ∷ rest) h = absurd (omega arith)
+
+pub head-first : (m : Ceilings) (l : List ℕ) → 2 ≤ length l
+    → questions m l ≡ andThen (headWord m (getD l 0 0)) (onwardsAt m l (number (getD l 0 0)) 1 false 0)
+unfolding questions
+head-first m [] h = absurd (omega arith)
+head-first m (w ∷ []) h = absurd (omega arith)
+head-first m (w ∷ x ∷ rest) h = refl
+
+-- the number of a head that is taken is the log's
+pub head-number : (m : Ceilings) (w k x : ℕ) → headWord m w ≡ given (k, x) → number w ≡ x
+head-number m w k x e =
+    let two = asked 2 0 (eqb (kind w) 1) (question 3 0 (leb (number w) (m .episodes)) (given (kind w, number w))) (k, x) e in
+    let three = asked 3 0 (leb (number w) (m .episodes)) (given (kind w, number w)) (k, x) (two .1) in
+    let both : _≡_ {A = ℕ × ℕ} (kind w, number w) (k, x) = cc in
+    ap (λ (v : ℕ × ℕ). v .1) both
+
+module _ (m : Ceilings) (l : List ℕ) (long : 2 ≤ length l) (head : LogWord) (e : wordAnswer head ≡ headWord m (getD l 0 0)) where
+  pub head-given-up : (k q : ℕ) → head ≡ GivenUp k q → wordAnswer head ≡ questions m l
+  head-given-up k q is = ap wordAnswer is ∙ sym (head-first m l long ∙ rw (sym e ∙ ap wordAnswer is))
+
+  pub head-taken : (k n : ℕ) → head ≡ Taken k n → questions m l ≡ onwardsAt m l n 1 false 0
+  head-taken k n is =
+      let passed = sym e ∙ ap wordAnswer is in
+      head-first m l long ∙ rw (passed, head-number m (getD l 0 0) k n passed)
+
+  module _ (k n : ℕ) (is : head ≡ Taken k n) (place count : ℕ) (stop : Stopped m l n place count) (word : LogWord)
+      (f : wordAnswer word ≡ logWordAt m l n place (ltb 1 place) count) where
+    pub word-given-up : (j q : ℕ) → word ≡ GivenUp j q → wordAnswer word ≡ questions m l
+    word-given-up j q at = ap wordAnswer at ∙ sym (head-taken k n is ∙ stop .answer ∙ rw (sym f ∙ ap wordAnswer at))
+
+    pub word-taken : (j x : ℕ) → word ≡ Taken j x → given (n, count) ≡ questions m l
+    word-taken j x at = sym (head-taken k n is ∙ stop .answer ∙ rw (sym f ∙ ap wordAnswer at))

@@ -1,0 +1,94 @@
+-- `log::read_within` meets its contract: the log is too short, its head is given up, or the loops over its groups stop at a word that
+-- is given up or at its end.
+-- Assumes nothing.
+use mathlib.Core.Path.{_∙_, sym}
+use native.Mathlib.Omega.{arith}
+use denote.Ref.{now}
+use Rattle.log.proofs.Whole.{too-short, head-given-up, word-given-up, word-taken}
+use borrow.Author.Needs.{needs}
+use Rattle.log.proofs.read_within.Statement.{statement}
+use Rattle.log.proofs.read_within.Tie as tie
+use Rattle.log.proofs.read_within.Reads as reads
+use Rattle.log.proofs.read_within.Lts as lts
+use Rattle.log.proofs.answer_of.Reads as answer-of-reads
+use Rattle.log.proofs.first_stop.Reads as first-stop-reads
+use Rattle.log.proofs.head_word.Reads as head-word-reads
+use Rattle.log.proofs.log_word.Reads as log-word-reads
+
+returns : tie.Need-returns
+returns c = sym (too-short _ _ (c .if1 .taken))
+
+shared-slice-read-head-word : tie.Need-shared-slice-read-head-word
+shared-slice-read-head-word c = search needs
+
+head-word-requires : tie.Need-head-word-requires
+head-word-requires c κs = search needs
+
+enum-known-head : tie.Need-enum-known-head
+enum-known-head c = search needs
+
+enum-told : tie.Need-enum-told
+enum-told c = search needs
+
+answer-of-requires : tie.Need-answer-of-requires
+answer-of-requires c κs = search needs
+
+returns-2 : tie.Need-returns-2
+returns-2 c =
+    let a = c .before .before .before .before .before .before .before .args in
+    let v = c .before .enum-told .given in
+    c .answer-of .ensures
+    ∙ head-given-up (a .m) (now (a .log)) (omega arith) (c .before .before .before .head-word .result) (c .before .before .before .head-word .ensures) (v .0 .0) (v .0 .1 .0) (v .1)
+
+first-stop-requires : tie.Need-first-stop-requires
+first-stop-requires c κs = search needs
+
+log-word-requires : tie.Need-log-word-requires
+log-word-requires c κs = search needs
+
+enum-told-2 : tie.Need-enum-told-2
+enum-told-2 c = search needs
+
+enum-told-3 : tie.Need-enum-told-3
+enum-told-3 c = search needs
+
+answer-of-requires-2 : tie.Need-answer-of-requires-2
+answer-of-requires-2 c κs = search needs
+
+returns-3 : tie.Need-returns-3
+returns-3 c =
+    let a = c .before .before .before .before .before .before .before .before .before .before .before .before .args in
+    let head = c .before .before .before .before .before .before .head .given in
+    let v = c .before .enum-told3 .given in
+    c .answer-of2 .ensures
+    ∙ word-given-up (a .m) (now (a .log)) (omega arith) (c .before .before .before .before .before .before .before .before .head-word .result) (c .before .before .before .before .before .before .before .before .head-word .ensures) (head .0 .0) (head .0 .1 .0) (head .1)
+    (c .before .before .before .before .first-stop .result .place) (c .before .before .before .before .first-stop .result .count) (c .before .before .before .before .first-stop .ensures) (c .before .before .before .log-word .result) (c .before .before .before .log-word .ensures)
+    (v .0 .0) (v .0 .1 .0) (v .1)
+
+returns-4 : tie.Need-returns-4
+returns-4 c =
+    let a = c .before .before .before .before .before .before .before .before .before .before .before .args in
+    let head = c .before .before .before .before .before .head .given in
+    let v = c .enum-told2 .given in
+    word-taken (a .m) (now (a .log)) (omega arith) (c .before .before .before .before .before .before .before .head-word .result) (c .before .before .before .before .before .before .before .head-word .ensures) (head .0 .0) (head .0 .1 .0) (head .1)
+    (c .before .before .before .first-stop .result .place) (c .before .before .before .first-stop .result .count) (c .before .before .before .first-stop .ensures) (c .before .before .log-word .result) (c .before .before .log-word .ensures)
+    (v .0 .0) (v .0 .1 .0) (v .1)
+
+pub read-within-spec : {M : Type 1} → statement M
+read-within-spec =
+    tie.close
+    (tie.spec
+    returns
+    shared-slice-read-head-word
+    head-word-requires
+    enum-known-head
+    enum-told
+    answer-of-requires
+    returns-2
+    first-stop-requires
+    log-word-requires
+    enum-told-2
+    enum-told-3
+    answer-of-requires-2
+    returns-3
+    returns-4)

@@ -1,0 +1,213 @@
+// The reading of a log: questions 1 to 10.
+ghost use mathlib.Core.Path.{_≡_};
+ghost use Prim.Native.Nat.{_+_, _<_, _≤_};
+ghost use lib.Dec.{ltb};
+ghost use lib.ListN.{length, getD, drop};
+ghost use Rattle.log.specs.Words.{kind, number};
+ghost use Rattle.log.specs.Answer.{given, question, wordAnswer, readAnswer};
+ghost use Rattle.log.specs.Log.{service, toBeforeLast, headWord, groupWord, endWord, logWordAt, Stopped, questions};
+
+// The most episodes and the most to words that a caller takes.
+pub struct Ceilings {
+    pub episodes: usize,
+    pub words: usize,
+}
+
+// A log word: its kind and number, or the number and place of the refusal that it earns.
+pub enum LogWord {
+    Taken(u32, usize),
+    GivenUp(u32, usize),
+}
+
+// A log: its count of episodes and of to words, or the number and place of its refusal.
+pub enum Reading {
+    Passed(usize, usize),
+    Refused(u32, usize),
+}
+
+pub fn kind_of(w: u32) -> u32
+    ensures { λ r. ⌜ r ≡ kind w ⌝ }
+{
+    w / 0x1000_0000
+}
+
+pub fn number_of(w: u32) -> usize
+    ensures { λ r. ⌜ r ≡ number w ⌝ }
+{
+    (w % 0x1000_0000) as usize
+}
+
+// Questions 2 and 3, of the head.
+fn head_word(m: Ceilings, w: u32) -> LogWord
+    ensures { λ r. ⌜ wordAnswer r ≡ headWord m w ⌝ }
+{
+    let kind = kind_of(w);
+    let number = number_of(w);
+    if kind != 1 {
+        return LogWord::GivenUp(2, 0);
+    }
+    if m.episodes < number {
+        return LogWord::GivenUp(3, 0);
+    }
+    LogWord::Taken(kind, number)
+}
+
+// Whether the word at `at` is not the last, and is a to word.
+fn to_before_last(log: &[u32], at: usize) -> bool
+    requires { ⌜ at < length (now log) ⌝ }
+    ensures { λ r. ⌜ r ≡ toBeforeLast (now (log .entry)) at ⌝ }
+{
+    let w = log[at];
+    at + 1 < log.len() && kind_of(w) == 3
+}
+
+// Questions 6 and 7, of a from word at `at`.
+fn from_word(log: &[u32], n: usize, at: usize, episode: usize) -> LogWord
+    requires { ⌜ at + 1 < length (now log) ⌝ }
+    ensures { λ r. ⌜ wordAnswer r ≡ question 6 at (toBeforeLast (now (log .entry)) (at + 1)) (question 7 at (ltb episode n) (given (2, episode))) ⌝ }
+{
+    if !to_before_last(log, at + 1) {
+        return LogWord::GivenUp(6, at);
+    }
+    if n <= episode {
+        return LogWord::GivenUp(7, at);
+    }
+    LogWord::Taken(2, episode)
+}
+
+// Questions 5, 7 and 8, of a to word at `at`.
+fn to_word(m: Ceilings, n: usize, at: usize, episode: usize, from: bool, count: usize) -> LogWord
+    ensures { λ r. ⌜ wordAnswer r ≡ question 5 at from (question 7 at (ltb episode n) (question 8 at (ltb count (m .words)) (given (3, episode)))) ⌝ }
+{
+    if !from {
+        return LogWord::GivenUp(5, at);
+    }
+    if n <= episode {
+        return LogWord::GivenUp(7, at);
+    }
+    if m.words <= count {
+        return LogWord::GivenUp(8, at);
+    }
+    LogWord::Taken(3, episode)
+}
+
+// Questions 4 to 8, of the word at `at`, which is neither the head nor the last.
+fn group_word(m: Ceilings, log: &[u32], n: usize, at: usize, from: bool, count: usize) -> LogWord
+    requires { ⌜ at + 1 < length (now log) ⌝ }
+    ensures { λ r. ⌜ wordAnswer r ≡ groupWord m n at (getD (now (log .entry)) at 0) (drop (at + 1) (now (log .entry))) from count ⌝ }
+{
+    let w = log[at];
+    let kind = kind_of(w);
+    let number = number_of(w);
+    if kind == 2 {
+        return from_word(log, n, at, number);
+    }
+    if kind == 3 {
+        return to_word(m, n, at, number, from, count);
+    }
+    LogWord::GivenUp(4, at)
+}
+
+// Questions 9 and 10, of the last word, `w` at `at`.
+fn end_word(w: u32, at: usize, count: usize) -> LogWord
+    ensures { λ r. ⌜ wordAnswer r ≡ endWord at w count ⌝ }
+{
+    let kind = kind_of(w);
+    let number = number_of(w);
+    if kind != 15 {
+        return LogWord::GivenUp(9, at);
+    }
+    if number != count {
+        return LogWord::GivenUp(10, at);
+    }
+    LogWord::Taken(kind, number)
+}
+
+// Questions 4 to 10, of the word at `at` behind the head.
+fn log_word(m: Ceilings, log: &[u32], n: usize, at: usize, from: bool, count: usize) -> LogWord
+    requires { ⌜ at < length (now log) ⌝ }
+    ensures { λ r. ⌜ wordAnswer r ≡ logWordAt m (now (log .entry)) n at from count ⌝ }
+{
+    if at + 1 < log.len() {
+        group_word(m, log, n, at, from, count)
+    } else {
+        end_word(log[at], at, count)
+    }
+}
+
+// Where the loops over the groups stop: the place of the first word between head and end that earns a refusal, or else of the last
+// word; and the count of to words before it.
+struct Stop {
+    place: usize,
+    count: usize,
+}
+
+fn first_stop(m: Ceilings, log: &[u32], n: usize) -> Stop
+    requires { ⌜ 2 ≤ length (now log) ⌝ }
+    ensures { λ r. ⌜ Stopped m (now (log .entry)) n (r .place) (r .count) ⌝ }
+{
+    let last = log.len() - 1;
+    let mut at = 1;
+    let mut count = 0;
+    let place = 'log: loop {
+        if at == last {
+            break 'log at;
+        }
+        let LogWord::Taken(_, _) = group_word(m, log, n, at, 1 < at, count) else {
+            break 'log at;
+        };
+        at += 1;
+        while to_before_last(log, at) {
+            let LogWord::Taken(_, _) = group_word(m, log, n, at, true, count) else {
+                break 'log at;
+            };
+            at += 1;
+            count += 1;
+        }
+    };
+    Stop { place, count }
+}
+
+// A word's answer as that of the log.
+fn answer_of(word: LogWord) -> Reading
+    ensures { λ r. ⌜ readAnswer r ≡ wordAnswer word ⌝ }
+{
+    match word {
+        LogWord::Taken(kind, number) => Reading::Passed(kind as usize, number),
+        LogWord::GivenUp(number, place) => Reading::Refused(number, place),
+    }
+}
+
+// Questions 1 to 10, at a caller's ceilings.
+pub fn read_within(m: Ceilings, log: &[u32]) -> Reading
+    ensures { λ r. ⌜ readAnswer r ≡ questions m (now (log .entry)) ⌝ }
+{
+    if log.len() < 2 {
+        return Reading::Refused(1, 0);
+    }
+    let head = head_word(m, log[0]);
+    let LogWord::Taken(_, n) = head else {
+        return answer_of(head);
+    };
+    let stop = first_stop(m, log, n);
+    let place = stop.place;
+    let count = stop.count;
+    let word = log_word(m, log, n, place, 1 < place, count);
+    let LogWord::Taken(_, _) = word else {
+        return answer_of(word);
+    };
+    Reading::Passed(n, count)
+}
+
+// Questions 1 to 10, at the service's ceilings.
+pub fn read(log: &[u32]) -> Reading
+    ensures { λ r. ⌜ readAnswer r ≡ questions service (now (log .entry)) ⌝ }
+{
+    read_within(
+        Ceilings {
+            episodes: 200,
+            words: 4096,
+        },
+        log,
+    )
+}
