@@ -3,18 +3,50 @@ use mathlib.Core.Path.{_≡_, refl, _∙_, ap, sym}
 use mathlib.Core.Logic.{_⊎_, inl, inr}
 use mathlib.Core.Bool.{Bool, true, false, _&&_, true≢false}
 use mathlib.Core.List.{List}
-use Prim.Native.Nat.{ℕ, _+_, _<_}
+use Prim.Native.Nat.{ℕ, _+_, _<_, _≤_}
 use native.Mathlib.Omega.{arith}
 use native.Mathlib.Nat.{add-zero}
 use native.Mathlib.Numerals.{add-one}
 use lib.Dec.{ltb, leb, eqb}
 use lib.ListN.{length, getD, drop, length-drop}
 use lib.Seq.{getD-drop}
-use borrow.Author.Tests.{lt-ltb, le-ltb, ltb-true, ltb-false, eqb-true, eqb-false, ne-eqb}
+use borrow.Author.Tests.{lt-ltb, le-ltb, lt-leb, le-leb, ltb-true, eqb-true, eqb-false, eq-eqb, ne-eqb}
 use Rattle.log.specs.Words.{kind, number}
 use Rattle.log.specs.Answer.{Answer, given, refused, question}
-use Rattle.log.specs.Log.{toBeforeLast, groupWord}
+use Rattle.log.specs.Log.{toBeforeLast, headWord, groupWord, endWord}
 use Rattle.log.specs.declared.Ceilings.{Ceilings}
+
+-- a question that is answered no, and one that is answered yes
+pub denied : {A : Type 0} (k p : ℕ) (b : Bool) (next : Answer A) → b ≡ false → refused k p ≡ question k p b next
+denied k p b next e = rw e
+
+pub answered : {A : Type 0} (k p : ℕ) (b : Bool) (next r : Answer A) → b ≡ true → r ≡ next → r ≡ question k p b next
+answered k p b next r e f = rw e f
+
+-- the head, by its kind `k` and its number `x`
+module _ (m : Ceilings) (w k x : ℕ) (is-kind : k ≡ kind w) (is-number : x ≡ number w) where
+  pub no-head : (k ≡ 1 → ⊥) → refused 2 0 ≡ headWord m w
+  no-head h = rw (← is-kind, ne-eqb k 1 h)
+
+  pub too-many : k ≡ 1 → m .episodes < x → refused 3 0 ≡ headWord m w
+  too-many h g = rw (← is-kind, eq-eqb k 1 h, ← is-number, lt-leb x (m .episodes) g)
+
+  pub head-taken : k ≡ 1 → x ≤ m .episodes → given (k, x) ≡ headWord m w
+  head-taken h g = rw (← is-kind, eq-eqb k 1 h, ← is-number, le-leb x (m .episodes) g)
+
+-- the last word
+module _ (p w t k x : ℕ) (is-kind : k ≡ kind w) (is-number : x ≡ number w) where
+  pub no-end : (k ≡ 15 → ⊥) → refused 9 p ≡ endWord p w t
+  unfolding endWord
+  no-end h = rw (← is-kind, ne-eqb k 15 h)
+
+  pub miscounted : k ≡ 15 → (x ≡ t → ⊥) → refused 10 p ≡ endWord p w t
+  unfolding endWord
+  miscounted h g = rw (← is-kind, eq-eqb k 15 h, ← is-number, ne-eqb x t g)
+
+  pub end-passed : k ≡ 15 → x ≡ t → given (k, x) ≡ endWord p w t
+  unfolding endWord
+  end-passed h g = rw (← is-kind, eq-eqb k 15 h, ← is-number, eq-eqb x t g)
 
 -- two tests whose facts follow from each other
 same-test : (a b c d : ℕ) → (a < b → c < d) → (c < d → a < b) → ltb a b ≡ ltb c d
@@ -39,6 +71,14 @@ to-there l p e = by-value (ltb (p + 1) (length l)) refl
     by-value : (b : Bool) → ltb (p + 1) (length l) ≡ b → (p + 1 < length l) × (kind (getD l p 0) ≡ 3)
     by-value true f = (ltb-true (p + 1) (length l) f, eqb-true (kind (getD l p 0)) 3 (rw f at e))
     by-value false f = absurd (true≢false (sym (rw f at e)))
+
+-- the test as the code makes it, by the kind `k` of the word
+module _ (l : List ℕ) (p k : ℕ) (is-kind : k ≡ kind (getD l p 0)) where
+  pub not-last : p + 1 < length l → eqb k 3 ≡ toBeforeLast l p
+  not-last h = rw (lt-ltb (p + 1) (length l) h, ← is-kind)
+
+  pub is-last : length l ≤ p + 1 → ltb (p + 1) (length l) ≡ toBeforeLast l p
+  is-last h = rw (le-ltb (p + 1) (length l) h)
 
 pub there-to : (l : List ℕ) (p : ℕ) → p + 1 < length l → kind (getD l p 0) ≡ 3 → toBeforeLast l p ≡ true
 there-to l p h e = rw (lt-ltb _ _ h, e)
@@ -97,3 +137,24 @@ group-taken m n p w rest from t a e = by-kind (eqb (kind w) 2) (eqb (kind w) 3) 
         let four = group-other m n p w rest from t (eqb-false (kind w) 2 f) (eqb-false (kind w) 3 g) in
         let none : _≡_ {A = ℕ} 0 1 = cc in
         absurd (omega arith)
+
+-- what the questions say of a last word that is taken
+pub end-taken : (p w t : ℕ) (a : ℕ × ℕ) → endWord p w t ≡ given a → (kind w ≡ 15) × (number w ≡ t)
+unfolding endWord
+end-taken p w t a e =
+    let nine = asked 9 p (eqb (kind w) 15) (question 10 p (eqb (number w) t) (given (kind w, number w))) a e in
+    let ten = asked 10 p (eqb (number w) t) (given (kind w, number w)) a (nine .1) in
+    (eqb-true (kind w) 15 (nine .0), eqb-true (number w) t (ten .0))
+
+-- and the other way round
+pub from-given : (m : Ceilings) (n p w : ℕ) (rest : List ℕ) (from : Bool) (t : ℕ) → FromTaken n w rest
+    → groupWord m n p w rest from t ≡ given (2, number w)
+from-given m n p w rest from t k = group-from m n p w rest from t (k .is-from) ∙ rw (k .to-follows, lt-ltb (number w) n (k .below))
+
+pub to-given : (m : Ceilings) (n p w : ℕ) (rest : List ℕ) (from : Bool) (t : ℕ) → ToTaken m n w from t
+    → groupWord m n p w rest from t ≡ given (3, number w)
+to-given m n p w rest from t k =
+    group-to m n p w rest from t (k .is-to) ∙ rw (k .from-before, lt-ltb (number w) n (k .below), lt-ltb t (m .words) (k .room))
+
+pub end-given : (p w t : ℕ) → kind w ≡ 15 → number w ≡ t → endWord p w t ≡ given (kind w, number w)
+end-given p w t k x = sym (end-passed p w t (kind w) (number w) refl refl k x)

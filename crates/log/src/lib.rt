@@ -38,15 +38,16 @@ pub fn number_of(w: u32) -> usize
 }
 
 // Questions 2 and 3, of the head.
-fn head_word(m: Ceilings, w: u32) -> LogWord
-    ensures { λ r. ⌜ wordAnswer r ≡ headWord m w ⌝ }
+fn head_word(most: Ceilings, w: u32) -> LogWord
+    ensures { λ r. ⌜ wordAnswer r ≡ headWord most w ⌝ }
 {
     let kind = kind_of(w);
     let number = number_of(w);
+    let ceiling = most.episodes;
     if kind != 1 {
         return LogWord::GivenUp(2, 0);
     }
-    if m.episodes < number {
+    if ceiling < number {
         return LogWord::GivenUp(3, 0);
     }
     LogWord::Taken(kind, number)
@@ -62,39 +63,42 @@ fn to_before_last(log: &[u32], at: usize) -> bool
 }
 
 // Questions 6 and 7, of a from word at `at`.
-fn from_word(log: &[u32], n: usize, at: usize, episode: usize) -> LogWord
+fn from_word(log: &[u32], n: usize, at: usize, earlier: usize) -> LogWord
     requires { ⌜ at + 1 < length (now log) ⌝ }
-    ensures { λ r. ⌜ wordAnswer r ≡ question 6 at (toBeforeLast (now (log .entry)) (at + 1)) (question 7 at (ltb episode n) (given (2, episode))) ⌝ }
+    ensures { λ r. ⌜ wordAnswer r ≡ question 6 at (toBeforeLast (now (log .entry)) (at + 1)) (question 7 at (ltb earlier n) (given (2, earlier))) ⌝ }
 {
-    if !to_before_last(log, at + 1) {
+    let follows = to_before_last(log, at + 1);
+    if !follows {
         return LogWord::GivenUp(6, at);
     }
-    if n <= episode {
-        return LogWord::GivenUp(7, at);
+    if n <= earlier {
+        LogWord::GivenUp(7, at)
+    } else {
+        LogWord::Taken(2, earlier)
     }
-    LogWord::Taken(2, episode)
 }
 
 // Questions 5, 7 and 8, of a to word at `at`.
-fn to_word(m: Ceilings, n: usize, at: usize, episode: usize, from: bool, count: usize) -> LogWord
-    ensures { λ r. ⌜ wordAnswer r ≡ question 5 at from (question 7 at (ltb episode n) (question 8 at (ltb count (m .words)) (given (3, episode)))) ⌝ }
+fn to_word(most: Ceilings, n: usize, at: usize, later: usize, from: bool, count: usize) -> LogWord
+    ensures { λ r. ⌜ wordAnswer r ≡ question 5 at from (question 7 at (ltb later n) (question 8 at (ltb count (most .words)) (given (3, later)))) ⌝ }
 {
+    let ceiling = most.words;
     if !from {
         return LogWord::GivenUp(5, at);
     }
-    if n <= episode {
+    if n <= later {
         return LogWord::GivenUp(7, at);
     }
-    if m.words <= count {
+    if ceiling <= count {
         return LogWord::GivenUp(8, at);
     }
-    LogWord::Taken(3, episode)
+    LogWord::Taken(3, later)
 }
 
 // Questions 4 to 8, of the word at `at`, which is neither the head nor the last.
-fn group_word(m: Ceilings, log: &[u32], n: usize, at: usize, from: bool, count: usize) -> LogWord
+fn group_word(most: Ceilings, log: &[u32], n: usize, at: usize, from: bool, count: usize) -> LogWord
     requires { ⌜ at + 1 < length (now log) ⌝ }
-    ensures { λ r. ⌜ wordAnswer r ≡ groupWord m n at (getD (now (log .entry)) at 0) (drop (at + 1) (now (log .entry))) from count ⌝ }
+    ensures { λ r. ⌜ wordAnswer r ≡ groupWord most n at (getD (now (log .entry)) at 0) (drop (at + 1) (now (log .entry))) from count ⌝ }
 {
     let w = log[at];
     let kind = kind_of(w);
@@ -103,7 +107,7 @@ fn group_word(m: Ceilings, log: &[u32], n: usize, at: usize, from: bool, count: 
         return from_word(log, n, at, number);
     }
     if kind == 3 {
-        return to_word(m, n, at, number, from, count);
+        return to_word(most, n, at, number, from, count);
     }
     LogWord::GivenUp(4, at)
 }
@@ -124,27 +128,27 @@ fn end_word(w: u32, at: usize, count: usize) -> LogWord
 }
 
 // Questions 4 to 10, of the word at `at` behind the head.
-fn log_word(m: Ceilings, log: &[u32], n: usize, at: usize, from: bool, count: usize) -> LogWord
+fn log_word(most: Ceilings, log: &[u32], n: usize, at: usize, from: bool, count: usize) -> LogWord
     requires { ⌜ at < length (now log) ⌝ }
-    ensures { λ r. ⌜ wordAnswer r ≡ logWordAt m (now (log .entry)) n at from count ⌝ }
+    ensures { λ r. ⌜ wordAnswer r ≡ logWordAt most (now (log .entry)) n at from count ⌝ }
 {
     if at + 1 < log.len() {
-        group_word(m, log, n, at, from, count)
+        group_word(most, log, n, at, from, count)
     } else {
         end_word(log[at], at, count)
     }
 }
 
-// Where the loops over the groups stop: the place of the first word between head and end that earns a refusal, or else of the last
-// word; and the count of to words before it.
+// A place of the log, and the count of to words before it.
 struct Stop {
     place: usize,
     count: usize,
 }
 
-fn first_stop(m: Ceilings, log: &[u32], n: usize) -> Stop
+// The place of the first word between head and end that earns a refusal, or else of the last word.
+fn first_stop(most: Ceilings, log: &[u32], n: usize) -> Stop
     requires { ⌜ 2 ≤ length (now log) ⌝ }
-    ensures { λ r. ⌜ Stopped m (now (log .entry)) n (r .place) (r .count) ⌝ }
+    ensures { λ r. ⌜ Stopped most (now (log .entry)) n (r .place) (r .count) ⌝ }
 {
     let last = log.len() - 1;
     let mut at = 1;
@@ -153,12 +157,14 @@ fn first_stop(m: Ceilings, log: &[u32], n: usize) -> Stop
         if at == last {
             break 'log at;
         }
-        let LogWord::Taken(_, _) = group_word(m, log, n, at, 1 < at, count) else {
+        // A group starts with its from word. A to word is met here only as word 1, before any from word.
+        let LogWord::Taken(_, _) = group_word(most, log, n, at, 1 < at, count) else {
             break 'log at;
         };
         at += 1;
+        // Its to words.
         while to_before_last(log, at) {
-            let LogWord::Taken(_, _) = group_word(m, log, n, at, true, count) else {
+            let LogWord::Taken(_, _) = group_word(most, log, n, at, true, count) else {
                 break 'log at;
             };
             at += 1;
@@ -179,20 +185,20 @@ fn answer_of(word: LogWord) -> Reading
 }
 
 // Questions 1 to 10, at a caller's ceilings.
-pub fn read_within(m: Ceilings, log: &[u32]) -> Reading
-    ensures { λ r. ⌜ readAnswer r ≡ questions m (now (log .entry)) ⌝ }
+pub fn read_within(most: Ceilings, log: &[u32]) -> Reading
+    ensures { λ r. ⌜ readAnswer r ≡ questions most (now (log .entry)) ⌝ }
 {
     if log.len() < 2 {
         return Reading::Refused(1, 0);
     }
-    let head = head_word(m, log[0]);
+    let head = head_word(most, log[0]);
     let LogWord::Taken(_, n) = head else {
         return answer_of(head);
     };
-    let stop = first_stop(m, log, n);
+    let stop = first_stop(most, log, n);
     let place = stop.place;
     let count = stop.count;
-    let word = log_word(m, log, n, place, 1 < place, count);
+    let word = log_word(most, log, n, place, 1 < place, count);
     let LogWord::Taken(_, _) = word else {
         return answer_of(word);
     };

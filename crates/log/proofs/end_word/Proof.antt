@@ -1,9 +1,8 @@
--- `log::end_word` meets its contract: at each `return` the tests that led there answer the questions.
+-- `log::end_word` meets its contract: the tests that led to a `return` answer the questions.
 -- Assumes nothing.
+use native.Mathlib.Omega.{arith}
+use Rattle.log.proofs.Asked.{no-end, miscounted, end-passed}
 use borrow.Author.Needs.{needs}
-use borrow.Author.Tests.{eq-eqb, ne-eqb}
-use mathlib.Core.Path.{_∙_, sym}
-use Rattle.log.specs.Log.{endWord}
 use Rattle.log.proofs.end_word.Statement.{statement}
 use Rattle.log.proofs.end_word.Tie as tie
 use Rattle.log.proofs.end_word.Reads as reads
@@ -18,17 +17,25 @@ number-of-requires : tie.Need-number-of-requires
 number-of-requires c κs = search needs
 
 returns : tie.Need-returns
-unfolding endWord
-returns c = rw (← c .before .before .kind-of .ensures, ne-eqb _ _ (c .if1 .taken))
+returns c =
+    let a = c .before .before .before .args in
+    let kind = c .before .before .kind-of in
+    let number = c .before .number-of in
+    no-end (a .at) (a .w) (a .count) (kind .result) (number .result) (kind .ensures) (number .ensures) (omega arith)
 
 returns-2 : tie.Need-returns-2
-unfolding endWord
 returns-2 c =
-    rw (← c .before .before .before .kind-of .ensures, eq-eqb _ _ (c .before .if1 .left), ← c .before .before .number-of .ensures, ne-eqb _ _ (c .if2 .taken))
+    let a = c .before .before .before .before .args in
+    let kind = c .before .before .before .kind-of in
+    let number = c .before .before .number-of in
+    miscounted (a .at) (a .w) (a .count) (kind .result) (number .result) (kind .ensures) (number .ensures) (omega arith) (omega arith)
 
 returns-3 : tie.Need-returns-3
-unfolding endWord
-returns-3 c = rw (← c .before .before .before .kind-of .ensures, eq-eqb _ _ (c .before .if1 .left), ← c .before .before .number-of .ensures, eq-eqb _ _ (c .if2 .left))
+returns-3 c =
+    let a = c .before .before .before .before .args in
+    let kind = c .before .before .before .kind-of in
+    let number = c .before .before .number-of in
+    end-passed (a .at) (a .w) (a .count) (kind .result) (number .result) (kind .ensures) (number .ensures) (omega arith) (omega arith)
 
 pub end-word-spec : {M : Type 1} → statement M
 end-word-spec =

@@ -18,16 +18,16 @@ use Rattle.log.proofs.group_word.Reads as group-word-reads
 use Rattle.log.proofs.to_before_last.Reads as to-before-last-reads
 
 abbrev Inv-loop : tie.InvT-loop
-Inv-loop m log n last at₀ count₀ at count = InGroup m log n at count × (at₀ ≤ at)
+Inv-loop most log n last at₀ count₀ at count = InGroup most log n at count × (at₀ ≤ at)
 
 abbrev μ-loop : tie.MeasureT-loop
-μ-loop m log n last at₀ count₀ at count = length log - at
+μ-loop most log n last at₀ count₀ at count = length log - at
 
 abbrev Inv-log : tie.InvT-log
-Inv-log m log n last at₀ count₀ at count = AtGroup m log n at count
+Inv-log most log n last at₀ count₀ at count = AtGroup most log n at count
 
 abbrev μ-log : tie.MeasureT-log
-μ-log m log n last at₀ count₀ at count = length log - at
+μ-log most log n last at₀ count₀ at count = length log - at
 
 sub-last : tie.Need-sub-last Inv-loop μ-loop Inv-log μ-log
 sub-last c = omega arith
@@ -52,7 +52,7 @@ loop-holds c =
     let a = c .before .before .before .before .before .before .args in
     let at = c .before .before .before .before .log in
     let v = c .enum-told .given in (
-      from-taken (a .m) (now (a .log)) (a .n) (at .at) (at .count) (c .before .before .group-word .result) (v .0 .0) (v .0 .1 .0) (at .inv) (omega arith)
+      from-taken (a .most) (now (a .log)) (a .n) (at .at) (at .count) (c .before .before .group-word .result) (v .0 .0) (v .0 .1 .0) (at .inv) (omega arith)
           (c .before .before .group-word .ensures) (v .1),
       omega arith,
     )
@@ -68,7 +68,7 @@ log-again c =
     let a = c .before .before .before .before .before .before .before .before .before .args in
     let at = c .before .before .loop in
     let test = c .before .to-before-last in
-    group-ends (a .m) (now (a .log)) (a .n) (at .at) (at .count) (test .result) (at .inv .0) (test .ensures) (c .if2 .left)
+    group-ends (a .most) (now (a .log)) (a .n) (at .at) (at .count) (test .result) (at .inv .0) (test .ensures) (c .if2 .left)
 
 group-word-requires-2 : tie.Need-group-word-requires-2 Inv-loop μ-loop Inv-log μ-log
 group-word-requires-2 c κs =
@@ -95,7 +95,7 @@ loop-again c =
     let at = c .before .before .before .before .before .loop in
     let test = c .before .before .before .before .to-before-last in
     let v = c .enum-told3 .given in (
-      to-taken (a .m) (now (a .log)) (a .n) (at .at) (at .count) (c .before .before .group-word2 .result) (v .0 .0) (v .0 .1 .0)
+      to-taken (a .most) (now (a .log)) (a .n) (at .at) (at .count) (c .before .before .group-word2 .result) (v .0 .0) (v .0 .1 .0)
           (test .result) (at .inv .0) (test .ensures) (c .before .before .before .if2 .taken) (c .before .before .group-word2 .ensures) (v .1),
       omega arith,
     )
@@ -104,14 +104,14 @@ returns : tie.Need-returns Inv-loop μ-loop Inv-log μ-log
 returns c =
     let a = c .before .before .before .args in
     let at = c .before .log in
-    at-last (a .m) (now (a .log)) (a .n) (at .at) (at .count) (at .inv) (omega arith)
+    at-last (a .most) (now (a .log)) (a .n) (at .at) (at .count) (at .inv) (omega arith)
 
 returns-2 : tie.Need-returns-2 Inv-loop μ-loop Inv-log μ-log
 returns-2 c =
     let a = c .before .before .before .before .before .before .args in
     let at = c .before .before .before .before .log in
     let v = c .enum-told2 .given in
-    from-given-up (a .m) (now (a .log)) (a .n) (at .at) (at .count) (c .before .before .group-word .result) (v .0 .0) (v .0 .1 .0) (at .inv) (omega arith)
+    from-given-up (a .most) (now (a .log)) (a .n) (at .at) (at .count) (c .before .before .group-word .result) (v .0 .0) (v .0 .1 .0) (at .inv) (omega arith)
     (c .before .before .group-word .ensures) (v .1)
 
 returns-3 : tie.Need-returns-3 Inv-loop μ-loop Inv-log μ-log
@@ -120,7 +120,7 @@ returns-3 c =
     let at = c .before .before .before .before .before .loop in
     let test = c .before .before .before .before .to-before-last in
     let v = c .enum-told4 .given in
-    to-given-up (a .m) (now (a .log)) (a .n) (at .at) (at .count) (c .before .before .group-word2 .result) (v .0 .0) (v .0 .1 .0)
+    to-given-up (a .most) (now (a .log)) (a .n) (at .at) (at .count) (c .before .before .group-word2 .result) (v .0 .0) (v .0 .1 .0)
     (test .result) (at .inv .0) (test .ensures) (c .before .before .before .if2 .taken) (c .before .before .group-word2 .ensures) (v .1)
 
 pub first-stop-spec : {M : Type 1} → statement M

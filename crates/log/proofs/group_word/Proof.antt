@@ -35,7 +35,7 @@ returns c =
     let a = c .before .before .before .before .before .before .args in
     let w : ℕ = getD (now (a .log)) (a .at) 0 in
     cc (
-      group-from (a .m) (a .n) (a .at) w (drop (a .at + 1) (now (a .log))) (a .from) (a .count)
+      group-from (a .most) (a .n) (a .at) w (drop (a .at + 1) (now (a .log))) (a .from) (a .count)
           (sym (c .before .before .before .kind-of .ensures) ∙ c .before .if1 .taken),
       behind (now (a .log)) (a .at + 1),
     )
@@ -48,7 +48,7 @@ returns-2 c =
     let a = c .before .before .before .before .before .before .before .args in
     let w : ℕ = getD (now (a .log)) (a .at) 0 in
     cc
-    (group-to (a .m) (a .n) (a .at) w (drop (a .at + 1) (now (a .log))) (a .from) (a .count)
+    (group-to (a .most) (a .n) (a .at) w (drop (a .at + 1) (now (a .log))) (a .from) (a .count)
     (sym (c .before .before .before .before .kind-of .ensures) ∙ c .before .if2 .taken))
 
 returns-3 : tie.Need-returns-3
@@ -56,7 +56,7 @@ returns-3 c =
     let a = c .before .before .before .before .before .before .args in
     let kind = c .before .before .before .kind-of in
     sym
-    (group-other (a .m) (a .n) (a .at) (getD (now (a .log)) (a .at) 0) (drop (a .at + 1) (now (a .log))) (a .from) (a .count)
+    (group-other (a .most) (a .n) (a .at) (getD (now (a .log)) (a .at) 0) (drop (a .at + 1) (now (a .log))) (a .from) (a .count)
     (λ e. c .before .if1 .left (kind .ensures ∙ e))
     (λ e. c .if2 .left (kind .ensures ∙ e)))
 

@@ -1,7 +1,8 @@
--- `log::head_word` meets its contract: at each `return` the tests that led there answer the questions.
+-- `log::head_word` meets its contract: the tests that led to a `return` answer the questions.
 -- Assumes nothing.
+use native.Mathlib.Omega.{arith}
+use Rattle.log.proofs.Asked.{no-head, too-many, head-taken}
 use borrow.Author.Needs.{needs}
-use borrow.Author.Tests.{eq-eqb, ne-eqb, le-leb, lt-leb}
 use Rattle.log.proofs.head_word.Statement.{statement}
 use Rattle.log.proofs.head_word.Tie as tie
 use Rattle.log.proofs.head_word.Reads as reads
@@ -16,13 +17,25 @@ number-of-requires : tie.Need-number-of-requires
 number-of-requires c κs = search needs
 
 returns : tie.Need-returns
-returns c = rw (← c .before .before .kind-of .ensures, ne-eqb _ _ (c .if1 .taken))
+returns c =
+    let a = c .before .before .before .args in
+    let kind = c .before .before .kind-of in
+    let number = c .before .number-of in
+    no-head (a .most) (a .w) (kind .result) (number .result) (kind .ensures) (number .ensures) (omega arith)
 
 returns-2 : tie.Need-returns-2
-returns-2 c = rw (← c .before .before .before .before .kind-of .ensures, eq-eqb _ _ (c .before .before .if1 .left), ← c .before .before .before .number-of .ensures, lt-leb _ _ (c .if2 .taken))
+returns-2 c =
+    let a = c .before .before .before .before .args in
+    let kind = c .before .before .before .kind-of in
+    let number = c .before .before .number-of in
+    too-many (a .most) (a .w) (kind .result) (number .result) (kind .ensures) (number .ensures) (omega arith) (omega arith)
 
 returns-3 : tie.Need-returns-3
-returns-3 c = rw (← c .before .before .before .before .kind-of .ensures, eq-eqb _ _ (c .before .before .if1 .left), ← c .before .before .before .number-of .ensures, le-leb _ _ (c .if2 .left))
+returns-3 c =
+    let a = c .before .before .before .before .args in
+    let kind = c .before .before .before .kind-of in
+    let number = c .before .before .number-of in
+    head-taken (a .most) (a .w) (kind .result) (number .result) (kind .ensures) (number .ensures) (omega arith) (omega arith)
 
 pub head-word-spec : {M : Type 1} → statement M
 head-word-spec =

@@ -28,12 +28,12 @@ end-word-requires c κs = search needs
 returns : tie.Need-returns
 returns c =
     let a = c .before .before .before .args in
-    cc (word-between (a .m) (now (a .log)) (a .n) (a .at) (a .from) (a .count) (c .before .if1 .taken))
+    cc (word-between (a .most) (now (a .log)) (a .n) (a .at) (a .from) (a .count) (c .before .if1 .taken))
 
 returns-2 : tie.Need-returns-2
 returns-2 c =
     let a = c .before .before .before .before .args in
-    cc (word-last (a .m) (now (a .log)) (a .n) (a .at) (a .from) (a .count) (c .before .before .if1 .left))
+    cc (word-last (a .most) (now (a .log)) (a .n) (a .at) (a .from) (a .count) (c .before .before .if1 .left))
 
 pub log-word-spec : {M : Type 1} → statement M
 log-word-spec =

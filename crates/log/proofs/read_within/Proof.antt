@@ -38,7 +38,7 @@ returns-2 c =
     let a = c .before .before .before .before .before .before .before .args in
     let v = c .before .enum-told .given in
     c .answer-of .ensures
-    ∙ head-given-up (a .m) (now (a .log)) (omega arith) (c .before .before .before .head-word .result) (c .before .before .before .head-word .ensures) (v .0 .0) (v .0 .1 .0) (v .1)
+    ∙ head-given-up (a .most) (now (a .log)) (omega arith) (c .before .before .before .head-word .result) (c .before .before .before .head-word .ensures) (v .0 .0) (v .0 .1 .0) (v .1)
 
 first-stop-requires : tie.Need-first-stop-requires
 first-stop-requires c κs = search needs
@@ -61,7 +61,7 @@ returns-3 c =
     let head = c .before .before .before .before .before .before .head .given in
     let v = c .before .enum-told3 .given in
     c .answer-of2 .ensures
-    ∙ word-given-up (a .m) (now (a .log)) (omega arith) (c .before .before .before .before .before .before .before .before .head-word .result) (c .before .before .before .before .before .before .before .before .head-word .ensures) (head .0 .0) (head .0 .1 .0) (head .1)
+    ∙ word-given-up (a .most) (now (a .log)) (omega arith) (c .before .before .before .before .before .before .before .before .head-word .result) (c .before .before .before .before .before .before .before .before .head-word .ensures) (head .0 .0) (head .0 .1 .0) (head .1)
     (c .before .before .before .before .first-stop .result .place) (c .before .before .before .before .first-stop .result .count) (c .before .before .before .before .first-stop .ensures) (c .before .before .before .log-word .result) (c .before .before .before .log-word .ensures)
     (v .0 .0) (v .0 .1 .0) (v .1)
 
@@ -70,7 +70,7 @@ returns-4 c =
     let a = c .before .before .before .before .before .before .before .before .before .before .before .args in
     let head = c .before .before .before .before .before .head .given in
     let v = c .enum-told2 .given in
-    word-taken (a .m) (now (a .log)) (omega arith) (c .before .before .before .before .before .before .before .head-word .result) (c .before .before .before .before .before .before .before .head-word .ensures) (head .0 .0) (head .0 .1 .0) (head .1)
+    word-taken (a .most) (now (a .log)) (omega arith) (c .before .before .before .before .before .before .before .head-word .result) (c .before .before .before .before .before .before .before .head-word .ensures) (head .0 .0) (head .0 .1 .0) (head .1)
     (c .before .before .before .first-stop .result .place) (c .before .before .before .first-stop .result .count) (c .before .before .before .first-stop .ensures) (c .before .before .log-word .result) (c .before .before .log-word .ensures)
     (v .0 .0) (v .0 .1 .0) (v .1)
 

@@ -1,7 +1,10 @@
 -- `log::to_before_last` meets its contract.
 -- Assumes nothing.
+use native.Mathlib.Omega.{arith}
+use mathlib.Core.Path.{refl}
+use denote.Ref.{now}
+use Rattle.log.proofs.Asked.{not-last, is-last}
 use borrow.Author.Needs.{needs}
-use borrow.Author.Tests.{lt-ltb, le-ltb}
 use Rattle.log.proofs.to_before_last.Statement.{statement}
 use Rattle.log.proofs.to_before_last.Tie as tie
 use Rattle.log.proofs.to_before_last.Reads as reads
@@ -21,10 +24,14 @@ kind-of-requires : tie.Need-kind-of-requires
 kind-of-requires c κs = search needs
 
 returns : tie.Need-returns
-returns c = rw (lt-ltb _ _ (c .before .if1 .taken), ← c .kind-of .ensures)
+returns c =
+    let a = c .before .before .before .before .args in
+    not-last (now (a .log)) (a .at) (c .kind-of .result) (c .kind-of .ensures) (omega arith)
 
 returns-2 : tie.Need-returns-2
-returns-2 c = rw (le-ltb _ _ (c .if1 .left))
+returns-2 c =
+    let a = c .before .before .before .args in
+    is-last (now (a .log)) (a .at) _ refl (omega arith)
 
 pub to-before-last-spec : {M : Type 1} → statement M
 to-before-last-spec =
