@@ -1,0 +1,12 @@
+// Trials: a line for each call, with its answer. The answers in the file stdout were worked out by hand from the questions of the
+// scope, before the program was run; where an answer is not plain, the comment at the log says how.
+mod full;
+mod show;
+mod small;
+mod words;
+
+fn main() {
+    small::all();
+    full::one_group();
+    full::pairs();
+}
