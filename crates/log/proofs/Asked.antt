@@ -1,4 +1,4 @@
--- Questions 4 to 8 by the kind of the word.
+-- The questions word by word: what an answer says of the word, and what it takes to be given one.
 use mathlib.Core.Path.{_≡_, refl, _∙_, ap, sym}
 use mathlib.Core.Logic.{_⊎_, inl, inr}
 use mathlib.Core.Bool.{Bool, true, false, _&&_, true≢false}
@@ -10,7 +10,7 @@ use native.Mathlib.Numerals.{add-one}
 use lib.Dec.{ltb, leb, eqb}
 use lib.ListN.{length, getD, drop, length-drop}
 use lib.Seq.{getD-drop}
-use borrow.Author.Tests.{lt-ltb, le-ltb, lt-leb, le-leb, ltb-true, eqb-true, eqb-false, eq-eqb, ne-eqb}
+use borrow.Author.Tests.{lt-ltb, le-ltb, lt-leb, le-leb, leb-true, ltb-true, eqb-true, eqb-false, eq-eqb, ne-eqb}
 use Rattle.log.specs.Words.{kind, number}
 use Rattle.log.specs.Answer.{Answer, given, refused, question}
 use Rattle.log.specs.Log.{toBeforeLast, headWord, groupWord, endWord}
@@ -72,6 +72,9 @@ to-there l p e = by-value (ltb (p + 1) (length l)) refl
     by-value true f = (ltb-true (p + 1) (length l) f, eqb-true (kind (getD l p 0)) 3 (rw f at e))
     by-value false f = absurd (true≢false (sym (rw f at e)))
 
+pub there-to : (l : List ℕ) (p : ℕ) → p + 1 < length l → kind (getD l p 0) ≡ 3 → toBeforeLast l p ≡ true
+there-to l p h e = rw (lt-ltb _ _ h, e)
+
 -- the test as the code makes it, by the kind `k` of the word
 module _ (l : List ℕ) (p k : ℕ) (is-kind : k ≡ kind (getD l p 0)) where
   pub not-last : p + 1 < length l → eqb k 3 ≡ toBeforeLast l p
@@ -79,9 +82,6 @@ module _ (l : List ℕ) (p k : ℕ) (is-kind : k ≡ kind (getD l p 0)) where
 
   pub is-last : length l ≤ p + 1 → ltb (p + 1) (length l) ≡ toBeforeLast l p
   is-last h = rw (le-ltb (p + 1) (length l) h)
-
-pub there-to : (l : List ℕ) (p : ℕ) → p + 1 < length l → kind (getD l p 0) ≡ 3 → toBeforeLast l p ≡ true
-there-to l p h e = rw (lt-ltb _ _ h, e)
 
 -- a question that is followed by an answer was answered yes
 pub asked : {A : Type 0} (k p : ℕ) (b : Bool) (next : Answer A) (a : A) → question k p b next ≡ given a → (b ≡ true) × (next ≡ given a)
@@ -138,7 +138,15 @@ group-taken m n p w rest from t a e = by-kind (eqb (kind w) 2) (eqb (kind w) 3) 
         let none : _≡_ {A = ℕ} 0 1 = cc in
         absurd (omega arith)
 
--- what the questions say of a last word that is taken
+-- what the questions say of a head that is taken
+pub head-passed : (m : Ceilings) (w : ℕ) (a : ℕ × ℕ) → headWord m w ≡ given a
+    → (kind w ≡ 1) × (number w ≤ m .episodes) × (_≡_ {A = ℕ × ℕ} (kind w, number w) a)
+head-passed m w a e =
+    let two = asked 2 0 (eqb (kind w) 1) (question 3 0 (leb (number w) (m .episodes)) (given (kind w, number w))) a e in
+    let three = asked 3 0 (leb (number w) (m .episodes)) (given (kind w, number w)) a (two .1) in
+    (eqb-true (kind w) 1 (two .0), leb-true (number w) (m .episodes) (three .0), cc (three .1))
+
+-- and of a last word that is taken
 pub end-taken : (p w t : ℕ) (a : ℕ × ℕ) → endWord p w t ≡ given a → (kind w ≡ 15) × (number w ≡ t)
 unfolding endWord
 end-taken p w t a e =

@@ -9,13 +9,13 @@ use native.Mathlib.Omega.{arith}
 use lib.Dec.{ltb}
 use lib.ListN.{length, getD, drop}
 use borrow.Author.Tests.{lt-ltb, ltb-true}
-use Rattle.log.specs.Words.{kind}
 use Rattle.log.specs.Answer.{wordAnswer}
-use Rattle.log.specs.Log.{toBeforeLast, groupWord, onwardsAt, Stopped}
+use Rattle.log.specs.Log.{toBeforeLast, groupWord}
+use Rattle.log.specs.Places.{onwardsAt, Stopped}
 use Rattle.log.specs.declared.LogWord.{LogWord}
 use Rattle.log.specs.declared.LogWord.the-variants.{Taken, GivenUp}
 use Rattle.log.specs.declared.Ceilings.{Ceilings}
-use Rattle.log.proofs.Asked.{to-there, there-to, group-taken, FromTaken, ToTaken}
+use Rattle.log.proofs.Asked.{to-there, there-to, group-taken, ToTaken}
 use Rattle.log.proofs.Places.{stop-last, stop-refused, step-from, step-to}
 
 -- at `p` a group begins, or the last word stands

@@ -6,5 +6,6 @@ pub mod Groups
 pub mod Whole
 pub mod Links
 pub mod Passed
+pub mod WellFormed
 pub mod Laws
 pub mod Worked

@@ -1,15 +1,15 @@
 -- The questions at a place of the log: what the word there answers, and what is left to ask behind it.
-use mathlib.Core.Path.{_≡_, refl, _∙_, ap, sym}
-use mathlib.Core.Bool.{Bool, true, false, _||_, or-true, or-false}
-use mathlib.Core.List.{List, [], _∷_}
-use Prim.Native.Nat.{ℕ, suc, _+_, _<_, _≤_}
-use native.Mathlib.Omega.{arith}
+use mathlib.Core.Path.{_≡_, _∙_}
+use mathlib.Core.Bool.{Bool, true, _||_, or-true, or-false}
+use mathlib.Core.List.{List, _∷_}
+use Prim.Native.Nat.{ℕ, _+_, _<_, _≤_}
 use native.Mathlib.Numerals.{add-one}
 use lib.ListN.{length, getD, drop, drop-of-length-le}
 use lib.Seq.{drop-cons}
 use Rattle.log.specs.Words.{kind}
-use Rattle.log.specs.Answer.{Answer, given, refused, andThen}
-use Rattle.log.specs.Log.{isFrom, isTo, groupWord, endWord, counted, onwards, logWordAt, onwardsAt}
+use Rattle.log.specs.Answer.{given, refused, andThen}
+use Rattle.log.specs.Log.{isFrom, isTo, groupWord, endWord, counted, onwards}
+use Rattle.log.specs.Places.{logWordAt, onwardsAt}
 use Rattle.log.specs.declared.Ceilings.{Ceilings}
 
 pub drop-at : (l : List ℕ) (p : ℕ) → p < length l → drop p l ≡ getD l p 0 ∷ drop (p + 1) l

@@ -4,15 +4,16 @@ use mathlib.Core.Bool.{false}
 use mathlib.Core.List.{List, [], _∷_}
 use Prim.Native.Nat.{ℕ, _<_, _≤_}
 use native.Mathlib.Omega.{arith}
-use lib.Dec.{ltb, leb, eqb}
+use lib.Dec.{ltb}
 use lib.ListN.{length, getD}
-use Rattle.log.specs.Words.{kind, number}
-use Rattle.log.specs.Answer.{Answer, given, refused, question, andThen, wordAnswer, readAnswer}
-use Rattle.log.specs.Log.{headWord, logWordAt, onwardsAt, questions, Stopped}
+use Rattle.log.specs.Words.{number}
+use Rattle.log.specs.Answer.{given, refused, andThen, wordAnswer}
+use Rattle.log.specs.Log.{headWord, questions}
+use Rattle.log.specs.Places.{logWordAt, onwardsAt, Stopped}
 use Rattle.log.specs.declared.LogWord.{LogWord}
 use Rattle.log.specs.declared.LogWord.the-variants.{Taken, GivenUp}
 use Rattle.log.specs.declared.Ceilings.{Ceilings}
-use Rattle.log.proofs.Asked.{asked}
+use Rattle.log.proofs.Asked.{head-passed}
 
 pub too-short : (m : Ceilings) (l : List ℕ) → length l < 2 → questions m l ≡ refused 1 0
 unfolding questions
@@ -27,14 +28,6 @@ head-first m [] h = absurd (omega arith)
 head-first m (w ∷ []) h = absurd (omega arith)
 head-first m (w ∷ x ∷ rest) h = refl
 
--- the number of a head that is taken is the log's
-pub head-number : (m : Ceilings) (w k x : ℕ) → headWord m w ≡ given (k, x) → number w ≡ x
-head-number m w k x e =
-    let two = asked 2 0 (eqb (kind w) 1) (question 3 0 (leb (number w) (m .episodes)) (given (kind w, number w))) (k, x) e in
-    let three = asked 3 0 (leb (number w) (m .episodes)) (given (kind w, number w)) (k, x) (two .1) in
-    let both : _≡_ {A = ℕ × ℕ} (kind w, number w) (k, x) = cc in
-    ap (λ (v : ℕ × ℕ). v .1) both
-
 module _ (m : Ceilings) (l : List ℕ) (long : 2 ≤ length l) (head : LogWord) (e : wordAnswer head ≡ headWord m (getD l 0 0)) where
   pub head-given-up : (k q : ℕ) → head ≡ GivenUp k q → wordAnswer head ≡ questions m l
   head-given-up k q is = ap wordAnswer is ∙ sym (head-first m l long ∙ rw (sym e ∙ ap wordAnswer is))
@@ -42,7 +35,7 @@ module _ (m : Ceilings) (l : List ℕ) (long : 2 ≤ length l) (head : LogWord) 
   pub head-taken : (k n : ℕ) → head ≡ Taken k n → questions m l ≡ onwardsAt m l n 1 false 0
   head-taken k n is =
       let passed = sym e ∙ ap wordAnswer is in
-      head-first m l long ∙ rw (passed, head-number m (getD l 0 0) k n passed)
+      head-first m l long ∙ rw (passed, ap (λ (v : ℕ × ℕ). v .1) (head-passed m (getD l 0 0) (k, n) passed .2))
 
   module _ (k n : ℕ) (is : head ≡ Taken k n) (place count : ℕ) (stop : Stopped m l n place count) (word : LogWord)
       (f : wordAnswer word ≡ logWordAt m l n place (ltb 1 place) count) where

@@ -1,4 +1,4 @@
--- What a call answers, in the scope's numbers, and what each enum that answers says so.
+-- What a call answers, and for each enum that answers the scope's number and values of its cases.
 use Prim.Native.Nat.{ℕ}
 use mathlib.Core.Bool.{Bool, true, false}
 use Rattle.log.specs.declared.LogWord.{LogWord}

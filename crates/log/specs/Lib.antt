@@ -2,3 +2,4 @@
 pub mod Words
 pub mod Answer
 pub mod Log
+pub mod Places

@@ -1,8 +1,7 @@
 -- A log: questions 1 to 10, and the graph that its words describe.
-use mathlib.Core.Path.{_≡_}
 use mathlib.Core.Bool.{Bool, true, false, not, _&&_, _||_}
 use mathlib.Core.List.{List, [], _∷_}
-use Prim.Native.Nat.{ℕ, _+_, _<_}
+use Prim.Native.Nat.{ℕ, _+_}
 use lib.Dec.{leb, ltb, eqb}
 use lib.ListN.{length, getD, drop}
 use Rattle.paths.specs.Graph.{Graph}
@@ -84,15 +83,3 @@ linksFrom a (w ∷ rest) =
 -- the graph of a log
 abbrev pub graphOf : List ℕ → Graph
 graphOf l = record { n = number (getD l 0 0); links = linksFrom 0 (drop 1 l) }
-
--- `logWord` and `onwards` at a place of the log `l`
-abbrev pub logWordAt : Ceilings → List ℕ → ℕ → ℕ → Bool → ℕ → Answer (ℕ × ℕ)
-logWordAt m l n p from t = logWord m n p (getD l p 0) (drop (p + 1) l) from t
-
-abbrev pub onwardsAt : Ceilings → List ℕ → ℕ → ℕ → Bool → ℕ → Answer (ℕ × ℕ)
-onwardsAt m l n p from t = onwards m n p (getD l p 0) (drop (p + 1) l) from t
-
--- The answer to questions 4 to 10 is that of the word at `place`, before which `count` to words have come.
-pub record Stopped (m : Ceilings) (l : List ℕ) (n place count : ℕ) : Type 0 where
-  pub within : place < length l
-  pub answer : onwardsAt m l n 1 false 0 ≡ andThen (logWordAt m l n place (ltb 1 place) count) (given (n, count))

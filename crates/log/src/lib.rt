@@ -5,7 +5,8 @@ ghost use lib.Dec.{ltb};
 ghost use lib.ListN.{length, getD, drop};
 ghost use Rattle.log.specs.Words.{kind, number};
 ghost use Rattle.log.specs.Answer.{given, question, wordAnswer, readAnswer};
-ghost use Rattle.log.specs.Log.{service, toBeforeLast, headWord, groupWord, endWord, logWordAt, Stopped, questions};
+ghost use Rattle.log.specs.Log.{service, toBeforeLast, headWord, groupWord, endWord, questions};
+ghost use Rattle.log.specs.Places.{logWordAt, Stopped};
 
 // The most episodes and the most to words that a caller takes.
 pub struct Ceilings {

@@ -1,8 +1,6 @@
 use borrow.Author.Needs.{needs}
 use Rattle.log.proofs.answer_of.Statement.{statement}
 use Rattle.log.proofs.answer_of.Tie as tie
-use Rattle.log.proofs.answer_of.Reads as reads
-use Rattle.log.proofs.answer_of.Lts as lts
 
 enum-known-word : tie.Need-enum-known-word
 enum-known-word c = search needs

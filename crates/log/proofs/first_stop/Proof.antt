@@ -12,10 +12,6 @@ use Rattle.log.proofs.Asked.{to-there}
 use Rattle.log.proofs.Groups.{AtGroup, InGroup, first-group, from-taken, from-given-up, to-taken, to-given-up, group-ends, at-last}
 use Rattle.log.proofs.first_stop.Statement.{statement}
 use Rattle.log.proofs.first_stop.Tie as tie
-use Rattle.log.proofs.first_stop.Reads as reads
-use Rattle.log.proofs.first_stop.Lts as lts
-use Rattle.log.proofs.group_word.Reads as group-word-reads
-use Rattle.log.proofs.to_before_last.Reads as to-before-last-reads
 
 abbrev Inv-loop : tie.InvT-loop
 Inv-loop most log n last at₀ count₀ at count = InGroup most log n at count × (at₀ ≤ at)

@@ -7,9 +7,6 @@ use Rattle.log.proofs.Asked.{denied, answered}
 use borrow.Author.Needs.{needs}
 use Rattle.log.proofs.from_word.Statement.{statement}
 use Rattle.log.proofs.from_word.Tie as tie
-use Rattle.log.proofs.from_word.Reads as reads
-use Rattle.log.proofs.from_word.Lts as lts
-use Rattle.log.proofs.to_before_last.Reads as to-before-last-reads
 
 add-to-before-last : tie.Need-add-to-before-last
 add-to-before-last c = search needs

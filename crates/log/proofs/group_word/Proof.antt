@@ -8,12 +8,6 @@ use Rattle.log.proofs.Asked.{behind, group-from, group-to, group-other}
 use borrow.Author.Needs.{needs}
 use Rattle.log.proofs.group_word.Statement.{statement}
 use Rattle.log.proofs.group_word.Tie as tie
-use Rattle.log.proofs.group_word.Reads as reads
-use Rattle.log.proofs.group_word.Lts as lts
-use Rattle.log.proofs.from_word.Reads as from-word-reads
-use Rattle.log.proofs.kind_of.Reads as kind-of-reads
-use Rattle.log.proofs.number_of.Reads as number-of-reads
-use Rattle.log.proofs.to_word.Reads as to-word-reads
 
 mul-w : tie.Need-mul-w
 mul-w c = search needs

@@ -5,10 +5,6 @@ use Rattle.log.proofs.Asked.{no-head, too-many, head-taken}
 use borrow.Author.Needs.{needs}
 use Rattle.log.proofs.head_word.Statement.{statement}
 use Rattle.log.proofs.head_word.Tie as tie
-use Rattle.log.proofs.head_word.Reads as reads
-use Rattle.log.proofs.head_word.Lts as lts
-use Rattle.log.proofs.kind_of.Reads as kind-of-reads
-use Rattle.log.proofs.number_of.Reads as number-of-reads
 
 kind-of-requires : tie.Need-kind-of-requires
 kind-of-requires c κs = search needs

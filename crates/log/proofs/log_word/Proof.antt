@@ -5,10 +5,6 @@ use Rattle.log.proofs.Places.{word-between, word-last}
 use borrow.Author.Needs.{needs}
 use Rattle.log.proofs.log_word.Statement.{statement}
 use Rattle.log.proofs.log_word.Tie as tie
-use Rattle.log.proofs.log_word.Reads as reads
-use Rattle.log.proofs.log_word.Lts as lts
-use Rattle.log.proofs.end_word.Reads as end-word-reads
-use Rattle.log.proofs.group_word.Reads as group-word-reads
 
 add-if1 : tie.Need-add-if1
 add-if1 c = search needs

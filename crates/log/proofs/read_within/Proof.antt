@@ -8,12 +8,6 @@ use Rattle.log.proofs.Whole.{too-short, head-given-up, word-given-up, w
 use borrow.Author.Needs.{needs}
 use Rattle.log.proofs.read_within.Statement.{statement}
 use Rattle.log.proofs.read_within.Tie as tie
-use Rattle.log.proofs.read_within.Reads as reads
-use Rattle.log.proofs.read_within.Lts as lts
-use Rattle.log.proofs.answer_of.Reads as answer-of-reads
-use Rattle.log.proofs.first_stop.Reads as first-stop-reads
-use Rattle.log.proofs.head_word.Reads as head-word-reads
-use Rattle.log.proofs.log_word.Reads as log-word-reads
 
 returns : tie.Need-returns
 returns c = sym (too-short _ _ (c .if1 .taken))

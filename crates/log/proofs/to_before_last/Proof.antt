@@ -7,9 +7,6 @@ use Rattle.log.proofs.Asked.{not-last, is-last}
 use borrow.Author.Needs.{needs}
 use Rattle.log.proofs.to_before_last.Statement.{statement}
 use Rattle.log.proofs.to_before_last.Tie as tie
-use Rattle.log.proofs.to_before_last.Reads as reads
-use Rattle.log.proofs.to_before_last.Lts as lts
-use Rattle.log.proofs.kind_of.Reads as kind-of-reads
 
 mul-w : tie.Need-mul-w
 mul-w c = search needs

@@ -6,8 +6,6 @@ use borrow.Author.Tests.{lt-ltb, le-ltb, not-true, not-false}
 use Rattle.log.proofs.Asked.{denied, answered}
 use Rattle.log.proofs.to_word.Statement.{statement}
 use Rattle.log.proofs.to_word.Tie as tie
-use Rattle.log.proofs.to_word.Reads as reads
-use Rattle.log.proofs.to_word.Lts as lts
 
 returns : tie.Need-returns
 returns c =

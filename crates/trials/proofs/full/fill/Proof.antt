@@ -7,8 +7,6 @@ use Prim.Native.Nat.{_≤_, _-_}
 use lib.ListN.{length, length-set}
 use Rattle.trials.proofs.full.fill.Statement.{statement}
 use Rattle.trials.proofs.full.fill.Tie as tie
-use Rattle.trials.proofs.full.fill.Reads as reads
-use Rattle.trials.proofs.full.fill.Lts as lts
 
 abbrev Inv-loop : tie.InvT-loop
 Inv-loop words₀ odd even i₀ i-end words i = (i ≤ i-end) × (length words ≡ length words₀)
