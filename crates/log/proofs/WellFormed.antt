@@ -15,7 +15,7 @@ use Rattle.log.specs.Log.{headWord, onwards, questions, graphOf}
 use Rattle.log.specs.declared.Ceilings.{Ceilings}
 use Rattle.log.proofs.Asked.{behind, to-there, there-to, head-passed}
 use Rattle.log.proofs.Links.{toWords}
-use Rattle.log.proofs.Passed.{both-given, last-behind, Grouped, Passed, passed, passes, ends-below}
+use Rattle.log.proofs.Rest.{both-given, last-behind, Grouped, RestFormed, rest-formed, rest-passes, ends-below}
 
 -- what stands at each place of a log with `n` episodes and `t` to words
 pub record WellFormed (m : Ceilings) (l : List ℕ) (n t : ℕ) : Type 0 where
@@ -37,7 +37,7 @@ record Parts (m : Ceilings) (h : ℕ) (s : List ℕ) (n t : ℕ) : Type 0 where
   head-kind : kind h ≡ 1
   head-number : number h ≡ n
   few-episodes : n ≤ m .episodes
-  words : Passed n s false 0 t
+  words : RestFormed n s false 0 t
   few-words : t ≤ m .words
 
 module _ (m : Ceilings) (h w : ℕ) (rest : List ℕ) (n t : ℕ) where
@@ -46,19 +46,19 @@ module _ (m : Ceilings) (h w : ℕ) (rest : List ℕ) (n t : ℕ) where
   parts e =
       let both = both-given (headWord m h) (onwards m (number h) 1 w rest false 0) (n, t) e in
       let head = head-passed m h (both .0 .0) (both .0 .1) in
-      let rest-passed = passed m (number h) 1 w rest false 0 n t (both .1) (omega arith) in
+      let formed = rest-formed m (number h) 1 w rest false 0 n t (both .1) (omega arith) in
       record {
         head-kind = head .0;
-        head-number = sym (rest-passed .0);
-        few-episodes = rw (rest-passed .0) (head .1);
-        words = rw (rest-passed .0) (rest-passed .1);
-        few-words = rest-passed .2;
+        head-number = sym (formed .0);
+        few-episodes = rw (formed .0) (head .1);
+        words = rw (formed .0) (formed .1);
+        few-words = formed .2;
       }
 
   parts-pass : Parts m h (w ∷ rest) n t → questions m (h ∷ w ∷ rest) ≡ given (n, t)
   unfolding questions
   parts-pass r =
-      rw (r .head-kind, r .head-number, le-leb n (m .episodes) (r .few-episodes)) (passes m n 1 w rest false 0 t (r .words) (r .few-words))
+      rw (r .head-kind, r .head-number, le-leb n (m .episodes) (r .few-episodes)) (rest-passes m n 1 w rest false 0 t (r .words) (r .few-words))
 
   well-formed-parts : Parts m h (w ∷ rest) n t → WellFormed m (h ∷ w ∷ rest) n t
   well-formed-parts r =

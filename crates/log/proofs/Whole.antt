@@ -32,15 +32,15 @@ module _ (m : Ceilings) (l : List ℕ) (long : 2 ≤ length l) (head : LogWord) 
   pub head-given-up : (k q : ℕ) → head ≡ GivenUp k q → wordAnswer head ≡ questions m l
   head-given-up k q is = ap wordAnswer is ∙ sym (head-first m l long ∙ rw (sym e ∙ ap wordAnswer is))
 
-  pub head-taken : (k n : ℕ) → head ≡ Taken k n → questions m l ≡ onwardsAt m l n 1 false 0
-  head-taken k n is =
+  pub behind-head : (k n : ℕ) → head ≡ Taken k n → questions m l ≡ onwardsAt m l n 1 false 0
+  behind-head k n is =
       let passed = sym e ∙ ap wordAnswer is in
       head-first m l long ∙ rw (passed, ap (λ (v : ℕ × ℕ). v .1) (head-passed m (getD l 0 0) (k, n) passed .2))
 
   module _ (k n : ℕ) (is : head ≡ Taken k n) (place count : ℕ) (stop : Stopped m l n place count) (word : LogWord)
       (f : wordAnswer word ≡ logWordAt m l n place (ltb 1 place) count) where
     pub word-given-up : (j q : ℕ) → word ≡ GivenUp j q → wordAnswer word ≡ questions m l
-    word-given-up j q at = ap wordAnswer at ∙ sym (head-taken k n is ∙ stop .answer ∙ rw (sym f ∙ ap wordAnswer at))
+    word-given-up j q at = ap wordAnswer at ∙ sym (behind-head k n is ∙ stop .answer ∙ rw (sym f ∙ ap wordAnswer at))
 
     pub word-taken : (j x : ℕ) → word ≡ Taken j x → given (n, count) ≡ questions m l
-    word-taken j x at = sym (head-taken k n is ∙ stop .answer ∙ rw (sym f ∙ ap wordAnswer at))
+    word-taken j x at = sym (behind-head k n is ∙ stop .answer ∙ rw (sym f ∙ ap wordAnswer at))

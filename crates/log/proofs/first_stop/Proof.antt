@@ -68,7 +68,9 @@ log-again c =
 
 group-word-requires-2 : tie.Need-group-word-requires-2 Inv-loop μ-loop Inv-log μ-log
 group-word-requires-2 c κs =
-    to-there (now (c .before .before .before .before .before .before .before .before .before .args .log)) (c .before .before .loop .at) (sym (c .before .to-before-last .ensures) ∙ c .if2 .taken) .0
+    let a = c .before .before .before .before .before .before .before .before .before .args in
+    let test = c .before .to-before-last in
+    to-there (now (a .log)) (c .before .before .loop .at) (sym (test .ensures) ∙ c .if2 .taken) .0
 
 enum-told-3 : tie.Need-enum-told-3 Inv-loop μ-loop Inv-log μ-log
 enum-told-3 c = search needs

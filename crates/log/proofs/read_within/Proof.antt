@@ -30,9 +30,10 @@ answer-of-requires c κs = search needs
 returns-2 : tie.Need-returns-2
 returns-2 c =
     let a = c .before .before .before .before .before .before .before .args in
+    let head = c .before .before .before .head-word in
     let v = c .before .enum-told .given in
     c .answer-of .ensures
-    ∙ head-given-up (a .most) (now (a .log)) (omega arith) (c .before .before .before .head-word .result) (c .before .before .before .head-word .ensures) (v .0 .0) (v .0 .1 .0) (v .1)
+    ∙ head-given-up (a .most) (now (a .log)) (omega arith) (head .result) (head .ensures) (v .0 .0) (v .0 .1 .0) (v .1)
 
 first-stop-requires : tie.Need-first-stop-requires
 first-stop-requires c κs = search needs
@@ -52,21 +53,25 @@ answer-of-requires-2 c κs = search needs
 returns-3 : tie.Need-returns-3
 returns-3 c =
     let a = c .before .before .before .before .before .before .before .before .before .before .before .before .args in
-    let head = c .before .before .before .before .before .before .head .given in
+    let head = c .before .before .before .before .before .before .before .before .head-word in
+    let taken = c .before .before .before .before .before .before .head .given in
+    let stop = c .before .before .before .before .first-stop in
+    let word = c .before .before .before .log-word in
     let v = c .before .enum-told3 .given in
     c .answer-of2 .ensures
-    ∙ word-given-up (a .most) (now (a .log)) (omega arith) (c .before .before .before .before .before .before .before .before .head-word .result) (c .before .before .before .before .before .before .before .before .head-word .ensures) (head .0 .0) (head .0 .1 .0) (head .1)
-    (c .before .before .before .before .first-stop .result .place) (c .before .before .before .before .first-stop .result .count) (c .before .before .before .before .first-stop .ensures) (c .before .before .before .log-word .result) (c .before .before .before .log-word .ensures)
-    (v .0 .0) (v .0 .1 .0) (v .1)
+    ∙ word-given-up (a .most) (now (a .log)) (omega arith) (head .result) (head .ensures) (taken .0 .0) (taken .0 .1 .0) (taken .1)
+    (stop .result .place) (stop .result .count) (stop .ensures) (word .result) (word .ensures) (v .0 .0) (v .0 .1 .0) (v .1)
 
 returns-4 : tie.Need-returns-4
 returns-4 c =
     let a = c .before .before .before .before .before .before .before .before .before .before .before .args in
-    let head = c .before .before .before .before .before .head .given in
+    let head = c .before .before .before .before .before .before .before .head-word in
+    let taken = c .before .before .before .before .before .head .given in
+    let stop = c .before .before .before .first-stop in
+    let word = c .before .before .log-word in
     let v = c .enum-told2 .given in
-    word-taken (a .most) (now (a .log)) (omega arith) (c .before .before .before .before .before .before .before .head-word .result) (c .before .before .before .before .before .before .before .head-word .ensures) (head .0 .0) (head .0 .1 .0) (head .1)
-    (c .before .before .before .first-stop .result .place) (c .before .before .before .first-stop .result .count) (c .before .before .before .first-stop .ensures) (c .before .before .log-word .result) (c .before .before .log-word .ensures)
-    (v .0 .0) (v .0 .1 .0) (v .1)
+    word-taken (a .most) (now (a .log)) (omega arith) (head .result) (head .ensures) (taken .0 .0) (taken .0 .1 .0) (taken .1)
+    (stop .result .place) (stop .result .count) (stop .ensures) (word .result) (word .ensures) (v .0 .0) (v .0 .1 .0) (v .1)
 
 pub read-within-spec : {M : Type 1} → statement M
 read-within-spec =

@@ -1,4 +1,5 @@
--- The words that pass questions 4 to 10 are those of `Passed`: each direction by induction on the words.
+-- The words behind the head pass questions 4 to 10 exactly when they are formed as `RestFormed` says: each direction by induction on
+-- the words.
 use mathlib.Core.Path.{_≡_, refl, _∙_, ap, sym, subst}
 use mathlib.Core.Logic.{_⊎_, inl, inr, ⊎-elim}
 use mathlib.Core.Bool.{Bool, true, false, true≢false, _||_, or-true, or-false}
@@ -20,16 +21,16 @@ Grouped n w rest = FromTaken n w rest ⊎ ((kind w ≡ 3) × (number w < n))
 
 -- the words `s` of a log from some place behind the head on: before them stood a from word if `from` says so, and `t` to words; the
 -- whole log has `t'`
-pub record Passed (n : ℕ) (s : List ℕ) (from : Bool) (t t' : ℕ) : Type 0 where
+pub record RestFormed (n : ℕ) (s : List ℕ) (from : Bool) (t t' : ℕ) : Type 0 where
   pub grouped : (i : ℕ) → i + 1 < length s → Grouped n (getD s i 0) (drop (i + 1) s)
   pub starts : from ≡ false → 1 < length s → kind (getD s 0 0) ≡ 2
   pub end-kind : kind (getD s (length s - 1) 0) ≡ 15
   pub end-number : number (getD s (length s - 1) 0) ≡ t'
   pub count : t + toWords s ≡ t'
 
-passed-end : (n w : ℕ) (from : Bool) (t : ℕ) → kind w ≡ 15 → number w ≡ t → Passed n (w ∷ []) from t t
+formed-end : (n w : ℕ) (from : Bool) (t : ℕ) → kind w ≡ 15 → number w ≡ t → RestFormed n (w ∷ []) from t t
 unfolding toWords
-passed-end n w from t k x =
+formed-end n w from t k x =
     record {
       grouped = λ i h. absurd (omega arith);
       starts = λ f h. absurd (omega arith);
@@ -46,7 +47,7 @@ last-behind w x rest =
 module _ (n w x : ℕ) (rest : List ℕ) (from : Bool) (t t' : ℕ) where
   -- one word more in front, and one less
   in-front : (t₁ : ℕ) → Grouped n w (x ∷ rest) → (from ≡ false → kind w ≡ 2) → t + toWords (w ∷ x ∷ rest) ≡ t₁ + toWords (x ∷ rest)
-      → Passed n (x ∷ rest) true t₁ t' → Passed n (w ∷ x ∷ rest) from t t'
+      → RestFormed n (x ∷ rest) true t₁ t' → RestFormed n (w ∷ x ∷ rest) from t t'
   in-front t₁ first starts same r =
       record {
         grouped = grouped;
@@ -60,7 +61,7 @@ module _ (n w x : ℕ) (rest : List ℕ) (from : Bool) (t t' : ℕ) where
       grouped zero h = first
       grouped (suc i) h = rw suc-add (r .grouped i (omega arith))
 
-  pub behind-word : (t₁ : ℕ) → t + toWords (w ∷ x ∷ rest) ≡ t₁ + toWords (x ∷ rest) → Passed n (w ∷ x ∷ rest) from t t' → Passed n (x ∷ rest) true t₁ t'
+  behind-word : (t₁ : ℕ) → t + toWords (w ∷ x ∷ rest) ≡ t₁ + toWords (x ∷ rest) → RestFormed n (w ∷ x ∷ rest) from t t' → RestFormed n (x ∷ rest) true t₁ t'
   behind-word t₁ same r =
       record {
         grouped = λ i h. rw suc-add at (r .grouped (suc i) (omega arith));
@@ -70,31 +71,37 @@ module _ (n w x : ℕ) (rest : List ℕ) (from : Bool) (t t' : ℕ) where
         count = sym same ∙ r .count;
       }
 
+  behind-from : kind w ≡ 2 → RestFormed n (w ∷ x ∷ rest) from t t' → RestFormed n (x ∷ rest) true t t'
+  behind-from k = behind-word t (rw (count-from w (x ∷ rest) k))
+
+  behind-to : kind w ≡ 3 → RestFormed n (w ∷ x ∷ rest) from t t' → RestFormed n (x ∷ rest) true (t + 1) t'
+  behind-to k = behind-word (t + 1) (rw (count-to w (x ∷ rest) k) (omega arith))
+
 -- an answer behind another: both are given
 pub both-given : {A B : Type 0} (x : Answer A) (y : Answer B) (b : B) → andThen x y ≡ given b → ((a : A) × (x ≡ given a)) × (y ≡ given b)
 both-given (given a) y b e = ((a, refl), e)
 both-given (refused k p) y b e = let none : _≡_ {A = ℕ} 0 1 = cc in absurd (omega arith)
 
-pub passed : (m : Ceilings) (n p w : ℕ) (rest : List ℕ) (from : Bool) (t n' t' : ℕ)
-    → onwards m n p w rest from t ≡ given (n', t') → t ≤ m .words → (n' ≡ n) × Passed n (w ∷ rest) from t t' × (t' ≤ m .words)
+pub rest-formed : (m : Ceilings) (n p w : ℕ) (rest : List ℕ) (from : Bool) (t n' t' : ℕ)
+    → onwards m n p w rest from t ≡ given (n', t') → t ≤ m .words → (n' ≡ n) × RestFormed n (w ∷ rest) from t t' × (t' ≤ m .words)
 unfolding onwards
-passed m n p w [] from t n' t' e room =
+rest-formed m n p w [] from t n' t' e room =
     let both = both-given (endWord p w t) (given (n, t)) (n', t') e in
     let end = end-taken p w t (both .0 .0) (both .0 .1) in
     let same : _≡_ {A = ℕ × ℕ} (n, t) (n', t') = cc in
     let count : t ≡ t' = ap (λ (v : ℕ × ℕ). v .1) same in (
       sym (ap (λ (v : ℕ × ℕ). v .0) same),
-      subst (λ (k : ℕ). Passed n (w ∷ []) from t k) count (passed-end n w from t (end .0) (end .1)),
+      subst (λ (k : ℕ). RestFormed n (w ∷ []) from t k) count (formed-end n w from t (end .0) (end .1)),
       omega arith,
     )
-passed m n p w (x ∷ rest) from t n' t' e room =
+rest-formed m n p w (x ∷ rest) from t n' t' e room =
     let both = both-given (groupWord m n p w (x ∷ rest) from t) (onwards m n (p + 1) x rest (from || isFrom w) (counted (isTo w) t)) (n', t') e in
     ⊎-elim
     (λ k.
-    let more = passed m n (p + 1) x rest true t n' t' (rw (k .is-from, or-true) at (both .1)) room in
+    let more = rest-formed m n (p + 1) x rest true t n' t' (rw (k .is-from, or-true) at (both .1)) room in
     (more .0, in-front n w x rest from t t' t (inl k) (λ f. k .is-from) (rw (count-from w (x ∷ rest) (k .is-from))) (more .1), more .2))
     (λ k.
-    let more = passed m n (p + 1) x rest true (t + 1) n' t' (rw (k .is-to, or-false, k .from-before) at (both .1)) (omega (arith, k .room)) in (
+    let more = rest-formed m n (p + 1) x rest true (t + 1) n' t' (rw (k .is-to, or-false, k .from-before) at (both .1)) (omega (arith, k .room)) in (
       more .0,
       in-front n w x rest from t t' (t + 1) (inr (k .is-to, k .below)) (λ f. absurd (true≢false (sym (k .from-before) ∙ f)))
           (rw (count-to w (x ∷ rest) (k .is-to)) (omega arith)) (more .1),
@@ -103,43 +110,41 @@ passed m n p w (x ∷ rest) from t n' t' e room =
     (group-taken m n p w (x ∷ rest) from t (both .0 .0) (both .0 .1))
 
 -- a to word stands first only where a from word came before
-from-before : (n w x : ℕ) (rest : List ℕ) (from : Bool) (t t' : ℕ) → Passed n (w ∷ x ∷ rest) from t t' → kind w ≡ 3 → from ≡ true
+from-before : (n w x : ℕ) (rest : List ℕ) (from : Bool) (t t' : ℕ) → RestFormed n (w ∷ x ∷ rest) from t t' → kind w ≡ 3 → from ≡ true
 from-before n w x rest true t t' r k = refl
 from-before n w x rest false t t' r k = let two : kind w ≡ 2 = r .starts refl (omega arith) in absurd (omega arith)
 
-pub passes : (m : Ceilings) (n p w : ℕ) (rest : List ℕ) (from : Bool) (t t' : ℕ)
-    → Passed n (w ∷ rest) from t t' → t' ≤ m .words → onwards m n p w rest from t ≡ given (n, t')
+pub rest-passes : (m : Ceilings) (n p w : ℕ) (rest : List ℕ) (from : Bool) (t t' : ℕ)
+    → RestFormed n (w ∷ rest) from t t' → t' ≤ m .words → onwards m n p w rest from t ≡ given (n, t')
 unfolding onwards endWord toWords
-passes m n p w [] from t t' r room =
+rest-passes m n p w [] from t t' r room =
     let count : t ≡ t' = omega (arith, r .count, count-end w [] (r .end-kind)) in
     rw (end-given p w t (r .end-kind) (r .end-number ∙ sym count)) (ap (λ (k : ℕ). given (n, k)) count)
-passes m n p w (x ∷ rest) from t t' r room =
+rest-passes m n p w (x ∷ rest) from t t' r room =
     ⊎-elim
     (λ k.
-    let more = passes m n (p + 1) x rest true t t' (behind-word n w x rest from t t' t (rw (count-from w (x ∷ rest) (k .is-from))) r) room in
+    let more = rest-passes m n (p + 1) x rest true t t' (behind-from n w x rest from t t' (k .is-from) r) room in
     rw (from-given m n p w (x ∷ rest) from t k, k .is-from, or-true) more)
     (λ k.
-    let same : t + toWords (w ∷ x ∷ rest) ≡ t + 1 + toWords (x ∷ rest) = rw (count-to w (x ∷ rest) (k .0)) (omega arith) in
-    let more = passes m n (p + 1) x rest true (t + 1) t' (behind-word n w x rest from t t' (t + 1) same r) room in
+    let more = rest-passes m n (p + 1) x rest true (t + 1) t' (behind-to n w x rest from t t' (k .0) r) room in
     let before = from-before n w x rest from t t' r (k .0) in
-    let taken : ToTaken m n w from t = record { is-to = k .0; from-before = before; below = k .1; room = omega (arith, r .count) } in
+    let taken : ToTaken m n w from t = record { is-to = k .0; from-before = before; below = k .1; room = omega (arith, r .count, count-to w (x ∷ rest) (k .0)) } in
     rw (to-given m n p w (x ∷ rest) from t taken, before, k .0) more)
     (r .grouped 0 (omega arith))
 
-pub ends-below : (n : ℕ) (s : List ℕ) (from : Bool) (t t' a : ℕ) → Passed n s from t t' → (from ≡ true → a < n)
+pub ends-below : (n : ℕ) (s : List ℕ) (from : Bool) (t t' a : ℕ) → RestFormed n s from t t' → (from ≡ true → a < n)
     → (b c : ℕ) → Mem (b, c) (linksFrom a s) → (b < n) × (c < n)
 ends-below n [] from t t' a r h b c i = absurd (not-nil (rw (links-nil a) at i))
 ends-below n (w ∷ []) from t t' a r h b c i = absurd (not-nil (rw (links-end a w [] (r .end-kind), links-nil) at i))
 ends-below n (w ∷ x ∷ rest) from t t' a r h b c i =
     ⊎-elim
     (λ k.
-    ends-below n (x ∷ rest) true t t' (number w) (behind-word n w x rest from t t' t (rw (count-from w (x ∷ rest) (k .is-from))) r) (λ f. k .below) b c
+    ends-below n (x ∷ rest) true t t' (number w) (behind-from n w x rest from t t' (k .is-from) r) (λ f. k .below) b c
     (rw (links-from a w (x ∷ rest) (k .is-from)) at i))
     (λ k.
-    let same : t + toWords (w ∷ x ∷ rest) ≡ t + 1 + toWords (x ∷ rest) = rw (count-to w (x ∷ rest) (k .0)) (omega arith) in
-    let more = ends-below n (x ∷ rest) true (t + 1) t' a (behind-word n w x rest from t t' (t + 1) same r) (λ f. h (from-before n w x rest from t t' r (k .0))) b c in
+    let start : a < n = h (from-before n w x rest from t t' r (k .0)) in
     ⊎-elim
-    (λ e. (omega (arith, ap (λ (v : ℕ × ℕ). v .0) e, h (from-before n w x rest from t t' r (k .0))), omega (arith, ap (λ (v : ℕ × ℕ). v .1) e, k .1)))
-    more
+    (λ e. (omega (arith, ap (λ (v : ℕ × ℕ). v .0) e), omega (arith, ap (λ (v : ℕ × ℕ). v .1) e, k .1)))
+    (ends-below n (x ∷ rest) true (t + 1) t' a (behind-to n w x rest from t t' (k .0) r) (λ f. start) b c)
     (mem-cases (rw (links-to a w (x ∷ rest) (k .0)) at i)))
     (r .grouped 0 (omega arith))
