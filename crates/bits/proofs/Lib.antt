@@ -1,0 +1,4 @@
+-- Laws of bits, and the functions' proofs.
+pub mod Digits
+pub mod Rows
+pub mod Fill

@@ -1,0 +1,249 @@
+-- Laws of bits in a list of words: after a word is stored, and of the first new bit.
+use mathlib.Core.Path.{_≡_, refl, sym, ap, _∙_, subst}
+use mathlib.Core.Logic.{_≢_, _⊎_, inl, inr, ⊎-elim}
+use mathlib.Core.List.{List}
+use Prim.Native.Nat.{ℕ, zero, suc, _+_, _-_, _*_, _/_, _%_, _^_, _≤_, _<_, max}
+use native.Mathlib.Decide.{decLt, decLe, ℕ-discrete}
+use native.Mathlib.Nat.{mod-lt, mod-eq-of-lt, div-eq-of-lt, div-le-self, zero-lt-suc, lt-of-lt-of-le, lt-of-le-of-lt}
+use native.Mathlib.Omega.{arith}
+use lib.ListN.{length, getD, set, length-set}
+use lib.Seq.{getD-set-same, getD-set-other}
+use lib.Pow.{pow-lt, pow-mono}
+use lib.Bits.{bitOr, bitXor, differ, or-lt, xor-lt}
+use lib.Count.{trailingZeros}
+use Rattle.bits.specs.Bits.{bit, BitSet, RowJoined, NextNew}
+use Rattle.bits.proofs.Digits.{digit, digit-lt, digit-or, digit-xor, digit-shr, digit-one, digit-other, digit-trailing, digit-below, digit-none}
+
+pub bit-lt : (w : List ℕ) (row b : ℕ) → bit w row b < 2
+unfolding bit
+bit-lt w row b = digit-lt (getD w (row + b / 32) 0) (b % 32)
+
+-- a bit is what its word makes it
+pub bit-word : (w w′ : List ℕ) (row b : ℕ) → getD w′ (row + b / 32) 0 ≡ getD w (row + b / 32) 0 → bit w′ row b ≡ bit w row b
+unfolding bit
+bit-word w w′ row b e = ap (λ (x : ℕ). digit x (b % 32)) e
+
+-- the bits of a row, from word to word
+pub bits-words : (w w′ : List ℕ) (row b : ℕ) → b < 256 → ((i : ℕ) → row ≤ i → i < row + 8 → getD w′ i 0 ≡ getD w i 0) → bit w′ row b ≡ bit w row b
+bits-words w w′ row b h f = bit-word w w′ row b (f (row + b / 32) (omega arith) (omega arith))
+
+pub bits-zero : (w : List ℕ) (row b : ℕ) → getD w (row + b / 32) 0 ≡ 0 → bit w row b ≡ 0
+unfolding bit
+bits-zero w row b e =
+    ap (λ (x : ℕ). digit x (b % 32)) e ∙ digit-none (b % 32)
+
+-- ---- one bit set
+
+mask : (b : ℕ) → 1 * 2 ^ (b % 32) % 4294967296 ≡ 2 ^ (b % 32)
+mask b =
+    let l : 2 ^ (b % 32) < 4294967296 = pow-lt {i = b % 32} {j = 32} (mod-lt b (zero-lt-suc 31)) in
+    let e : 1 * 2 ^ (b % 32) ≡ 2 ^ (b % 32) = omega arith in
+    ap (λ (x : ℕ). x % 4294967296) e ∙ mod-eq-of-lt l
+
+pub set-bit-law : (w : List ℕ) (row b : ℕ) → row + b / 32 < length w
+    → BitSet w (set w (row + b / 32) (bitOr (getD w (row + b / 32) 0) (1 * 2 ^ (b % 32) % 4294967296))) row b
+unfolding bit
+set-bit-law w row b h =
+    record {
+      same-length = length-set w at stored;
+      words = λ i ne. getD-set-other w at i stored 0 ne;
+      here =
+          ap (λ (x : ℕ). digit x (b % 32)) new ∙ digit-or old (2 ^ (b % 32)) (b % 32)
+          ∙ (let o : digit (2 ^ (b % 32)) (b % 32) ≡ 1 = digit-one (b % 32) in
+          let l : digit old (b % 32) < 2 = digit-lt old (b % 32) in omega arith);
+      others = λ c ne. others c ne (ℕ-discrete (c / 32) (b / 32));
+    }
+  where
+    at : ℕ
+    at = row + b / 32
+
+    old : ℕ
+    old = getD w at 0
+
+    stored : ℕ
+    stored = bitOr old (1 * 2 ^ (b % 32) % 4294967296)
+
+    w′ : List ℕ
+    w′ = set w at stored
+
+    new : getD w′ at 0 ≡ bitOr old (2 ^ (b % 32))
+    new = getD-set-same w at stored 0 h ∙ ap (bitOr old) (mask b)
+
+    others : (c : ℕ) → c ≢ b → Dec (c / 32 ≡ b / 32) → digit (getD w′ (row + c / 32) 0) (c % 32) ≡ digit (getD w (row + c / 32) 0) (c % 32)
+    others c ne (no far) = ap (λ (x : ℕ). digit x (c % 32)) (getD-set-other w at (row + c / 32) stored 0 (λ e. far (omega arith)))
+    others c ne (yes e) =
+        let same : row + c / 32 ≡ at = omega arith in
+        let z : digit (2 ^ (b % 32)) (c % 32) ≡ 0 = digit-other (b % 32) (c % 32) (λ f. ne (omega arith)) in
+        rw same (ap (λ (x : ℕ). digit x (c % 32)) new ∙ digit-or old (2 ^ (b % 32)) (c % 32) ∙ omega arith)
+
+-- ---- a row joined into another
+
+-- the first `i` words of the row at `to` have those of the row at `from` joined into them
+pub record Joining (w w′ : List ℕ) (to from i : ℕ) : Type 0 where
+  pub same-length : length w′ ≡ length w
+  pub done : (j : ℕ) → j < i → getD w′ (to + j) 0 ≡ bitOr (getD w (to + j) 0) (getD w (from + j) 0)
+  pub before : (j : ℕ) → j < to → getD w′ j 0 ≡ getD w j 0
+  pub behind : (j : ℕ) → to + i ≤ j → getD w′ j 0 ≡ getD w j 0
+
+pub joining-none : (w : List ℕ) (to from : ℕ) → Joining w w to from 0
+joining-none w to from = record { same-length = refl; done = λ j h. absurd (omega arith); before = λ j h. refl; behind = λ j h. refl }
+
+module _ (w w′ : List ℕ) (base a k i : ℕ) (h : i < 8) (s : Joining w w′ (base + 8 * a) (base + 8 * k) i) where
+  abbrev to : ℕ
+  to = base + 8 * a
+
+  abbrev from : ℕ
+  from = base + 8 * k
+
+  abbrev x : ℕ
+  x = bitOr (getD w′ (to + i) 0) (getD w′ (from + i) 0)
+
+  source : Dec (from + i < to) → getD w′ (from + i) 0 ≡ getD w (from + i) 0
+  source (yes l) = s .before (from + i) l
+  source (no l) = s .behind (from + i) (omega arith)
+
+  pub joining-more : to + i < length w → Joining w (set w′ (to + i) x) to from (i + 1)
+  joining-more fits =
+      record {
+        same-length = length-set w′ (to + i) x ∙ s .same-length;
+        done = λ j l. done j l (ℕ-discrete j i);
+        before = λ j l. getD-set-other w′ (to + i) j x 0 (λ e. absurd (omega arith)) ∙ s .before j l;
+        behind = λ j l. getD-set-other w′ (to + i) j x 0 (λ e. absurd (omega arith)) ∙ s .behind j (omega arith);
+      }
+    where
+      done : (j : ℕ) → j < i + 1 → Dec (j ≡ i) → getD (set w′ (to + i) x) (to + j) 0 ≡ bitOr (getD w (to + j) 0) (getD w (from + j) 0)
+      done j l (yes e) =
+          rw e (getD-set-same w′ (to + i) x 0 (rw (s .same-length) fits)
+          ∙ ap (λ (y : ℕ). bitOr y (getD w′ (from + i) 0)) (s .behind (to + i) (omega arith))
+          ∙ ap (bitOr (getD w (to + i) 0)) (source (decLt (from + i) to)))
+      done j l (no ne) = getD-set-other w′ (to + i) (to + j) x 0 (λ e. ne (omega arith)) ∙ s .done j (omega arith)
+
+pub row-joined : (w w′ : List ℕ) (base a k i : ℕ) → i ≡ 8 → Joining w w′ (base + 8 * a) (base + 8 * k) i → RowJoined w w′ base a k
+unfolding bit
+row-joined w w′ base a k i e s =
+    record {
+      same-length = s .same-length;
+      before = s .before;
+      behind = λ j h. s .behind j (omega arith);
+      joined = λ b l. ap (λ (x : ℕ). digit x (b % 32)) (s .done (b / 32) (omega arith)) ∙ digit-or _ _ (b % 32);
+    }
+
+-- ---- the first new bit
+
+-- the digits that `r` has and `o` has not
+abbrev pub fresh : ℕ → ℕ → ℕ
+fresh r o = bitXor (bitOr r o) o
+
+fresh-one : (x y : ℕ) → x < 2 → y < 2 → differ (max x y) y ≡ 1 → (x ≡ 1) × (y ≡ 0)
+fresh-one zero zero h k e = absurd (omega arith)
+fresh-one zero (suc zero) h k e = absurd (omega arith)
+fresh-one (suc zero) zero h k e = (refl, refl)
+fresh-one (suc zero) (suc zero) h k e = absurd (omega arith)
+fresh-one zero (suc (suc y)) h k e = absurd (omega arith)
+fresh-one (suc zero) (suc (suc y)) h k e = absurd (omega arith)
+fresh-one (suc (suc x)) y h k e = absurd (omega arith)
+
+fresh-zero : (x y : ℕ) → x < 2 → y < 2 → differ (max x y) y ≡ 0 → x ≡ 1 → y ≡ 1
+fresh-zero zero zero h k e f = absurd (omega arith)
+fresh-zero (suc zero) zero h k e f = absurd (omega arith)
+fresh-zero (suc (suc x)) zero h k e f = absurd (omega arith)
+fresh-zero x (suc zero) h k e f = refl
+fresh-zero x (suc (suc y)) h k e f = absurd (omega arith)
+
+digit-fresh : (r o i : ℕ) → digit (fresh r o) i ≡ differ (max (digit r i) (digit o i)) (digit o i)
+digit-fresh r o i = digit-xor (bitOr r o) o i ∙ ap (λ (x : ℕ). differ x (digit o i)) (digit-or r o i)
+
+-- a digit that is one stands below a number's bound
+one-below : (x k i : ℕ) → x < 2 ^ k → digit x i ≡ 1 → i < k
+one-below x k i h e = go (decLt i k)
+  where
+    go : Dec (i < k) → i < k
+    go (yes l) = l
+    go (no l) =
+        let z : digit x i ≡ 0 = ap (λ (y : ℕ). y % 2) (div-eq-of-lt (lt-of-lt-of-le h (pow-mono (omega arith)))) in
+        absurd (omega arith)
+
+-- the rows at `row` and `seen` of `w` from the bit `at` on; `x` is what is new in its word, from that bit on
+module _ (w : List ℕ) (row seen at : ℕ) where
+  abbrev pub newIn : ℕ
+  newIn = fresh (getD w (row + at / 32) 0) (getD w (seen + at / 32) 0) / 2 ^ (at % 32)
+
+  -- its digits are those of the rows
+  digit-new : (i : ℕ) → at % 32 + i < 32
+      → digit newIn i ≡ differ (max (bit w row (at + i)) (bit w seen (at + i))) (bit w seen (at + i))
+  unfolding bit
+  digit-new i h =
+      let e : (at + i) / 32 ≡ at / 32 = omega arith in
+      let f : (at + i) % 32 ≡ at % 32 + i = omega arith in
+      rw (e, f) (digit-shr _ (at % 32) i ∙ digit-fresh _ _ (at % 32 + i))
+
+  pub new-found : (t : ℕ) → at % 32 + t < 32 → digit newIn t ≡ 1 → (bit w row (at + t) ≡ 1) × (bit w seen (at + t) ≡ 0)
+  new-found t h e = fresh-one _ _ (bit-lt w row (at + t)) (bit-lt w seen (at + t)) (sym (digit-new t h) ∙ e)
+
+  pub new-none : (t : ℕ) → at % 32 + t < 32 → digit newIn t ≡ 0 → bit w row (at + t) ≡ 1 → bit w seen (at + t) ≡ 1
+  new-none t h e = fresh-zero _ _ (bit-lt w row (at + t)) (bit-lt w seen (at + t)) (sym (digit-new t h) ∙ e)
+
+  new-lt : getD w (row + at / 32) 0 < 2 ^ 32 → getD w (seen + at / 32) 0 < 2 ^ 32 → newIn < 2 ^ 32
+  new-lt h k =
+      lt-of-le-of-lt (div-le-self _ (2 ^ (at % 32))) (xor-lt 32 _ _ (or-lt 32 _ _ h k) k)
+
+  -- from the bit `at` on, in its word: the first new bit
+  pub first-new : getD w (row + at / 32) 0 < 2 ^ 32 → getD w (seen + at / 32) 0 < 2 ^ 32 → at < 256 → 0 < newIn
+      → NextNew w row seen at (at + trailingZeros 32 newIn)
+  first-new h k l p =
+      let t : ℕ = trailingZeros 32 newIn in
+      let (below, one) = digit-trailing 32 newIn (new-lt h k) p in
+      let within : at % 32 + t < 32 =
+      one-below (fresh (getD w (row + at / 32) 0) (getD w (seen + at / 32) 0)) 32 (at % 32 + t)
+      (xor-lt 32 _ _ (or-lt 32 _ _ h k) k) (sym (digit-shr _ (at % 32) t) ∙ one) in
+      record {
+        at-least = omega arith;
+        at-most = omega arith;
+        new = λ q. new-found t within one;
+        passed = λ c lo hi.
+            let e : at + (c - at) ≡ c = omega arith in
+            rw e at (new-none (c - at) (omega arith) (digit-below 32 newIn (c - at) (omega arith)));
+      }
+
+  -- or none
+  pub word-passed : newIn ≡ 0 → (c : ℕ) → at ≤ c → c < (at / 32 + 1) * 32 → bit w row c ≡ 1 → bit w seen c ≡ 1
+  word-passed z c lo hi =
+      let e : at + (c - at) ≡ c = omega arith in
+      rw e at (new-none (c - at) (omega arith) (ap (λ (y : ℕ). digit y (c - at)) z ∙ digit-none (c - at)))
+
+-- no new bit from `from` on up to `at`
+pub record NoneNew (w : List ℕ) (row seen from at : ℕ) : Type 0 where
+  pub at-least : from ≤ at
+  pub at-most : at ≤ 256
+  pub passed : (c : ℕ) → from ≤ c → c < at → bit w row c ≡ 1 → bit w seen c ≡ 1
+
+module _ (w : List ℕ) (row seen from at : ℕ) (none : NoneNew w row seen from at) where
+  pub none-then-first : (r : ℕ) → NextNew w row seen at r → NextNew w row seen from r
+  none-then-first r f =
+      record {
+        at-least = omega (arith, f .at-least);
+        at-most = f .at-most;
+        new = f .new;
+        passed = λ c lo hi. go c lo hi (decLt c at);
+      }
+    where
+      go : (c : ℕ) → from ≤ c → c < r → Dec (c < at) → bit w row c ≡ 1 → bit w seen c ≡ 1
+      go c lo hi (yes l) = none .passed c lo l
+      go c lo hi (no l) = f .passed c (omega arith) hi
+
+  pub none-then-none : at < 256 → newIn w row seen at ≡ 0 → NoneNew w row seen from ((at / 32 + 1) * 32)
+  none-then-none l z =
+      record { at-least = omega arith; at-most = omega arith; passed = λ c lo hi. go c lo hi (decLt c at) }
+    where
+      go : (c : ℕ) → from ≤ c → c < (at / 32 + 1) * 32 → Dec (c < at) → bit w row c ≡ 1 → bit w seen c ≡ 1
+      go c lo hi (yes h) = none .passed c lo h
+      go c lo hi (no h) = word-passed w row seen at z c (omega arith) hi
+
+  pub none-at-all : 256 ≤ at → NextNew w row seen from 256
+  none-at-all h =
+      record {
+        at-least = omega arith;
+        at-most = omega arith;
+        new = λ l. absurd (omega arith);
+        passed = λ c lo hi. none .passed c lo (omega arith);
+      }

@@ -1,0 +1,2 @@
+-- Rows of bits and tables in lent words.
+pub mod Bits

@@ -1,0 +1,65 @@
+// Rows of bits in lent words: 8 words, 256 bits, to a row.
+ghost use mathlib.Core.Path.{_≡_};
+ghost use Prim.Native.Nat.{_+_, _*_, _/_, _<_, _≤_};
+ghost use lib.ListN.{length, replicate};
+ghost use Rattle.bits.specs.Bits.{bit, BitSet, RowJoined, NextNew};
+
+// Bit `b` of the row that starts at word `row`.
+pub fn bit_at(w: &[u32], row: usize, b: usize) -> u32
+    requires { ⌜ row + b / 32 < length (now w) ⌝ }
+    ensures { λ r. ⌜ r ≡ bit (now (w .entry)) row b ⌝ }
+{
+    (w[row + b / 32] >> (b % 32)) % 2
+}
+
+// Sets bit `b` of the row that starts at word `row`.
+pub fn set_bit(w: &mut [u32], row: usize, b: usize)
+    requires { ⌜ row + b / 32 < length (now w) ⌝ }
+    ensures { λ _. ⌜ BitSet (now (w .entry)) (now (w .exit)) row b ⌝ }
+{
+    let at = row + b / 32;
+    w[at] = w[at] | (1 << (b % 32));
+}
+
+// Joins row `k` of the matrix at `base` into row `a`.
+pub fn join_row(w: &mut [u32], base: usize, a: usize, k: usize)
+    requires { ⌜ (base + 8 * a + 8 ≤ length (now w)) × (base + 8 * k + 8 ≤ length (now w)) ⌝ }
+    ensures { λ _. ⌜ RowJoined (now (w .entry)) (now (w .exit)) base a k ⌝ }
+{
+    let to = base + 8 * a;
+    let from = base + 8 * k;
+    let mut i = 0;
+    while i < 8 {
+        w[to + i] = w[to + i] | w[from + i];
+        i += 1;
+    }
+}
+
+// The first bit from `from` on that the row at `row` has and the row at `seen` has not, or 256.
+pub fn next_new(w: &[u32], row: usize, seen: usize, from: usize) -> usize
+    requires { ⌜ (row + 8 ≤ length (now w)) × (seen + 8 ≤ length (now w)) × (from ≤ 256) ⌝ }
+    ensures { λ r. ⌜ NextNew (now (w .entry)) row seen from r ⌝ }
+{
+    let mut at = from;
+    while at < 256 {
+        let i = at / 32;
+        let old = w[seen + i];
+        let new = ((w[row + i] | old) ^ old) >> (at % 32);
+        if new != 0 {
+            return at + u32::trailing_zeros(new) as usize;
+        }
+        at = (i + 1) * 32;
+    }
+    256
+}
+
+// Makes every word zero.
+pub fn clear(w: &mut [u32])
+    ensures { λ _. ⌜ now (w .exit) ≡ replicate (length (now (w .entry))) 0 ⌝ }
+{
+    let mut i = 0;
+    while i < w.len() {
+        w[i] = 0;
+        i += 1;
+    }
+}
