@@ -1,7 +1,7 @@
 -- Binary digits of a number: of `or`, `xor`, a power of two, a shifted number, and the lowest that is one.
-use mathlib.Core.Path.{_≡_, refl, sym, ap, ap₂, _∙_, subst}
+use mathlib.Core.Path.{_≡_, refl, sym, ap, _∙_, subst}
 use mathlib.Core.Logic.{_≢_}
-use Prim.Native.Nat.{ℕ, zero, suc, _+_, _-_, _*_, _/_, _%_, _^_, _≤_, _<_, max}
+use Prim.Native.Nat.{ℕ, zero, suc, _+_, _-_, _*_, _/_, _%_, _^_, _<_, max}
 use native.Mathlib.Decide.{decLt}
 use native.Mathlib.Nat.{mod-lt, zero-lt-suc, div-eq-of-lt, pow-suc}
 use native.Mathlib.Omega.{arith}

@@ -2,3 +2,4 @@
 pub mod Digits
 pub mod Rows
 pub mod Fill
+pub mod Frames

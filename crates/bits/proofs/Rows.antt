@@ -1,9 +1,9 @@
 -- Laws of bits in a list of words: after a word is stored, and of the first new bit.
-use mathlib.Core.Path.{_≡_, refl, sym, ap, _∙_, subst}
-use mathlib.Core.Logic.{_≢_, _⊎_, inl, inr, ⊎-elim}
+use mathlib.Core.Path.{_≡_, refl, sym, ap, _∙_}
+use mathlib.Core.Logic.{_≢_}
 use mathlib.Core.List.{List}
 use Prim.Native.Nat.{ℕ, zero, suc, _+_, _-_, _*_, _/_, _%_, _^_, _≤_, _<_, max}
-use native.Mathlib.Decide.{decLt, decLe, ℕ-discrete}
+use native.Mathlib.Decide.{decLt, ℕ-discrete}
 use native.Mathlib.Nat.{mod-lt, mod-eq-of-lt, div-eq-of-lt, div-le-self, zero-lt-suc, lt-of-lt-of-le, lt-of-le-of-lt}
 use native.Mathlib.Omega.{arith}
 use lib.ListN.{length, getD, set, length-set}

@@ -1,2 +1,3 @@
 -- Rows of bits and tables in lent words.
 pub mod Bits
+pub mod Work

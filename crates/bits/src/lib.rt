@@ -4,6 +4,26 @@ ghost use Prim.Native.Nat.{_+_, _*_, _/_, _<_, _≤_};
 ghost use lib.ListN.{length, replicate};
 ghost use Rattle.bits.specs.Bits.{bit, BitSet, RowJoined, NextNew};
 
+// The regions of the work words: the links and the ways, each a row of bits for each episode; the tables of the search, 256 words each;
+// the bits of what it has seen, and bits of which none is set.
+pub const LINKS: usize = 0;
+
+pub const WAYS: usize = 2048;
+
+pub const NEXT: usize = 4096;
+
+pub const PREV: usize = 4352;
+
+pub const VIA: usize = 4608;
+
+pub const QUEUE: usize = 4864;
+
+pub const SEEN: usize = 5120;
+
+pub const NONE: usize = 5128;
+
+pub const USED: usize = 5136;
+
 // Bit `b` of the row that starts at word `row`.
 pub fn bit_at(w: &[u32], row: usize, b: usize) -> u32
     requires { ⌜ row + b / 32 < length (now w) ⌝ }

@@ -48,7 +48,7 @@ use Rattle.paths.proofs.Duality.{equal-smallest, equal-largest}
 use Rattle.paths.proofs.Furthest.{Behind, furthest-by-threads}
 
 -- both, or one of the two
-both : (a b : Bool) → T (a && b) → T a × T b
+pub both : (a b : Bool) → T (a && b) → T a × T b
 both true b h = (tt, h)
 both false b h = absurd h
 
@@ -64,7 +64,7 @@ right : (a b : Bool) → T b → T (a || b)
 right true b h = tt
 right false b h = h
 
-pair : (a b : Bool) → T a → T b → T (a && b)
+pub pair : (a b : Bool) → T a → T b → T (a && b)
 pair true b h k = k
 pair false b h k = absurd h
 
@@ -83,13 +83,13 @@ module _ {A : Type 0} where
   each-right f [] h = all-nil _
   each-right f (y ∷ l) h = let q = both (f y) (each f l) h in all-cons (q .0) (each-right f l (q .1))
 
-  some-right : (f : A → Bool) (l : List A) → T (some f l) → (x : A) × Mem x l × T (f x)
+  pub some-right : (f : A → Bool) (l : List A) → T (some f l) → (x : A) × Mem x l × T (f x)
   unfolding some
   some-right f [] h = absurd h
   some-right f (y ∷ l) h =
       ⊎-elim (λ p. (y, here refl, p)) (λ q. let r = some-right f l q in (r .0, there (r .1), r .2)) (either (f y) (some f l) h)
 
-  some-all : (f : A → Bool) (l : List A) {x : A} → Mem x l → T (f x) → T (some f l)
+  pub some-all : (f : A → Bool) (l : List A) {x : A} → Mem x l → T (f x) → T (some f l)
   unfolding some
   some-all f [] m h = absurd (not-nil m)
   some-all f (y ∷ l) m h =
@@ -101,11 +101,11 @@ unfoldable pub member : ℕ → List ℕ → Bool
 unfolding some
 member x l = some (eqb x) l
 
-member-right : (x : ℕ) (l : List ℕ) → T (member x l) → Mem x l
+pub member-right : (x : ℕ) (l : List ℕ) → T (member x l) → Mem x l
 unfolding member
 member-right x l h = let r = some-right (eqb x) l h in Memᴰ·cast (eqb→eq x (r .0) (r .2)) (r .1)
 
-member-all : (x : ℕ) (l : List ℕ) → Mem x l → T (member x l)
+pub member-all : (x : ℕ) (l : List ℕ) → Mem x l → T (member x l)
 unfolding member
 member-all x l m = some-all (eqb x) l m (eqb-refl x)
 

@@ -3,8 +3,6 @@ use mathlib.Core.Path.{refl}
 use Rattle.bits.specs.Bits.{bit}
 use Rattle.bits.proofs.bit_at.Statement.{statement}
 use Rattle.bits.proofs.bit_at.Tie as tie
-use Rattle.bits.proofs.bit_at.Reads as reads
-use Rattle.bits.proofs.bit_at.Lts as lts
 
 -- src/lib.rt:12:8
 add-result : tie.Need-add-result

@@ -7,8 +7,6 @@ use lib.ListN.{length, set, drop, replicate, length-set}
 use Rattle.bits.proofs.Fill.{all-filled}
 use Rattle.bits.proofs.clear.Statement.{statement}
 use Rattle.bits.proofs.clear.Tie as tie
-use Rattle.bits.proofs.clear.Reads as reads
-use Rattle.bits.proofs.clear.Lts as lts
 
 abbrev Inv-loop : tie.InvT-loop
 Inv-loop w₀ i₀ w i = (i ≤ length w₀) × (length w ≡ length w₀) × (w ≡ replicate i 0 ++ drop i w₀)

@@ -1,11 +1,8 @@
-use mathlib.Core.Path.{_≡_}
 use Prim.Native.Nat.{_+_, _*_, _-_, _≤_}
 use native.Mathlib.Omega.{arith}
 use Rattle.bits.proofs.Rows.{Joining, joining-more, row-joined}
 use Rattle.bits.proofs.join_row.Statement.{statement}
 use Rattle.bits.proofs.join_row.Tie as tie
-use Rattle.bits.proofs.join_row.Reads as reads
-use Rattle.bits.proofs.join_row.Lts as lts
 
 abbrev Inv-loop : tie.InvT-loop
 Inv-loop w₀ base a k to from i₀ w i = (i ≤ 8) × Joining w₀ w (base + 8 * a) (base + 8 * k) i

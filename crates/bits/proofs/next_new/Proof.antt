@@ -4,8 +4,6 @@ use lib.Count.{trailingZeros, trailing-le}
 use Rattle.bits.proofs.Rows.{NoneNew, newIn, first-new, none-then-first, none-then-none, none-at-all}
 use Rattle.bits.proofs.next_new.Statement.{statement}
 use Rattle.bits.proofs.next_new.Tie as tie
-use Rattle.bits.proofs.next_new.Reads as reads
-use Rattle.bits.proofs.next_new.Lts as lts
 
 abbrev Inv-loop : tie.InvT-loop
 Inv-loop w row seen from at₀ at = NoneNew w row seen from at

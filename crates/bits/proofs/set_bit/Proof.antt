@@ -2,8 +2,6 @@ use borrow.Author.Needs.{needs}
 use Rattle.bits.proofs.Rows.{set-bit-law}
 use Rattle.bits.proofs.set_bit.Statement.{statement}
 use Rattle.bits.proofs.set_bit.Tie as tie
-use Rattle.bits.proofs.set_bit.Reads as reads
-use Rattle.bits.proofs.set_bit.Lts as lts
 
 -- src/lib.rt:20:14
 add-at : tie.Need-add-at

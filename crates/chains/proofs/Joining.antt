@@ -1,0 +1,72 @@
+-- From single items to as few chains as can be, one chain fewer at a time.
+use mathlib.Core.Path.{_≡_}
+use mathlib.Core.Bool.{true, false}
+use mathlib.Core.Logic.{⊎-elim}
+use mathlib.Core.List.{List}
+use Prim.Native.Nat.{ℕ, _+_, _-_, _≤_, _<_}
+use native.Mathlib.Omega.{arith}
+use lib.ListN.{getD}
+use Rattle.bits.specs.Bits.{sum}
+use Rattle.bits.specs.Work.{nextAt, prevAt, viaAt, Outside}
+use Rattle.chains.specs.Items.{Matching}
+use Rattle.chains.specs.State.{tables, Pairs, Sized, ShrunkIn, JoinedIn}
+use Rattle.chains.proofs.Counts.{shrunk-fewer}
+use Rattle.bits.proofs.Frames.{outside-none, outside-then, outside-wider}
+use Rattle.chains.proofs.Relations.{exhausted-within}
+use Rattle.chains.proofs.Showing.{matching-kept, same-links, sized-kept, forth, back}
+
+-- the chains are of pairs of the matrix; the words were `w₀`
+pub record Joining (w₀ w : List ℕ) (base m : ℕ) : Type 0 where
+  pub sized : Sized w base m
+  pub outside : Outside nextAt 5128 w₀ w
+  pub matching : Matching m (tables w)
+  pub pairs : (a b : ℕ) → a < m → b < m → tables w .next a ≡ b + 1 → Pairs base w₀ a b
+
+-- how many chains there are
+abbrev pub chainCount : List ℕ → ℕ → ℕ
+chainCount w m = sum (λ a. 1 - getD w (nextAt + a) 0) m
+
+pub joining-start : (w : List ℕ) (base m : ℕ) → Sized w base m → ((i : ℕ) → nextAt ≤ i → i < viaAt → getD w i 0 ≡ 0) → Joining w w base m
+joining-start w base m z none =
+    record {
+      sized = z;
+      outside = outside-none nextAt 5128 w;
+      matching =
+          record {
+            next-le = λ a al. let e = next-none a al in omega arith;
+            prev-le = λ b bl. let e = prev-none b bl in omega arith;
+            there = λ a b al bl h. let e = next-none a al in absurd (omega arith);
+            back = λ a b al bl h. let e = prev-none b bl in absurd (omega arith);
+          };
+      pairs = λ a b al bl h. let e = next-none a al in let bad : ⊥ = omega arith in absurd bad;
+    }
+  where
+    next-none : (a : ℕ) → a < m → getD w (nextAt + a) 0 ≡ 0
+    next-none a al = none (nextAt + a) (omega arith) (omega (arith, z .items))
+
+    prev-none : (b : ℕ) → b < m → getD w (prevAt + b) 0 ≡ 0
+    prev-none b bl = none (prevAt + b) (omega arith) (omega (arith, z .items))
+
+module _ (w₀ w w′ : List ℕ) (base m : ℕ) (z : Sized w₀ base m) (s : Joining w₀ w base m) where
+  -- one chain fewer
+  pub joining-more : ShrunkIn w w′ base m true → Joining w₀ w′ base m
+  joining-more (o, k) =
+      record {
+        sized = sized-kept (o .same-length) (s .sized);
+        outside = outside-then (s .outside) o;
+        matching = k .matching;
+        pairs = λ a b al bl h. ⊎-elim (s .pairs a b al bl) (back z (omega arith) (s .outside) a b al bl) (k .pairs a b al bl h);
+      }
+
+  pub joining-less : ShrunkIn w w′ base m true → chainCount w′ m < chainCount w m
+  joining-less (o, k) = shrunk-fewer k
+
+  -- as few as can be
+  pub joining-end : ShrunkIn w w′ base m false → JoinedIn w₀ w′ base m
+  joining-end (o, x) =
+      record {
+        outside = outside-then (s .outside) (outside-wider (omega arith) (omega arith) o);
+        matching = matching-kept o (z .items) (s .matching);
+        pairs = λ a b al bl h. let e = same-links o m (z .items) .next-same a al in s .pairs a b al bl (omega arith);
+        exhausted = exhausted-within (back z (omega arith) (s .outside)) (forth z (omega arith) (s .outside)) x;
+      }

@@ -1,0 +1,19 @@
+-- Theorems on chains of items, and the functions' proofs.
+pub mod Searches
+pub mod Flips
+pub mod Counts
+pub mod Relations
+pub mod Cycle
+pub mod Members
+pub mod Steps
+pub mod Antichain
+pub mod Threads
+pub mod Reports
+pub mod Frames
+pub mod Words
+pub mod Preparing
+pub mod Showing
+pub mod Looking
+pub mod Shrinking
+pub mod Joining
+pub mod Looping

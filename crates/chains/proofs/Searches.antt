@@ -1,0 +1,347 @@
+-- The search: what holds before it, after each item that it sees, and at its end, with or without a chain fewer in sight.
+use mathlib.Core.Path.{_≡_, refl}
+use mathlib.Core.Logic.{_⊎_, inl, inr, ⊎-elim, _≢_}
+use mathlib.Core.List.{
+  List,
+  [],
+  _∷_,
+  List·Memᴰ as Mem,
+  List·Memᴰ·not-nil as not-nil,
+  List·Memᴰ·cases-cons as mem-cases,
+  List·Nodup,
+  Pairwise·nil,
+}
+use Prim.Native.Nat.{ℕ, zero, suc, _+_, _≤_, _<_}
+use native.Mathlib.Decide.{ℕ-discrete, decLt}
+use native.Mathlib.Omega.{arith}
+use lib.ListN.{length}
+use Rattle.order.proofs.Lists.{nodup-cons}
+use Rattle.paths.proofs.Numbers.{nodup-below}
+use Rattle.chains.specs.Items.{
+  Tables,
+  Matching,
+  Open,
+  Reached,
+  from-end,
+  from-next,
+  Exhausted,
+  SeenFrom,
+  Searching,
+  Prepared,
+  Saw,
+  Trail,
+  Flipping,
+}
+
+-- f (k - 1) .. f 0
+values : (ℕ → ℕ) → ℕ → List ℕ
+values f zero = []
+values f (suc k) = f k ∷ values f k
+
+length-values : (f : ℕ → ℕ) (k : ℕ) → length (values f k) ≡ k
+unfolding values
+length-values f zero = refl
+length-values f (suc k) = let h = length-values f k in omega arith
+
+values-from : {x : ℕ} (f : ℕ → ℕ) (k : ℕ) → Mem x (values f k) → (p : ℕ) × (p < k) × (x ≡ f p)
+unfolding values
+values-from f zero m = absurd (not-nil m)
+values-from {x} f (suc k) m = go (values-from f k) (mem-cases m)
+  where
+    go : (Mem x (values f k) → (p : ℕ) × (p < k) × (x ≡ f p)) → (x ≡ f k) ⊎ Mem x (values f k) → (p : ℕ) × (p < suc k) × (x ≡ f p)
+    go rest (inl e) = (k, omega arith, e)
+    go rest (inr n) = let (p, h, e) = rest n in (p, omega arith, e)
+
+values-nodup : (f : ℕ → ℕ) (k : ℕ) → ((p q : ℕ) → p < k → q < k → f p ≡ f q → p ≡ q) → List·Nodup (values f k)
+unfolding values
+values-nodup f zero h = Pairwise·nil
+values-nodup f (suc k) h =
+    nodup-cons (λ m. let (p, lt, e) = values-from f k m in let same : k ≡ p = h k p (omega arith) (omega arith) e in omega arith)
+    (values-nodup f k (λ p q i j e. h p q (omega arith) (omega arith) e))
+
+-- a map from the numbers below `k` to different numbers below `m` shows that `k` is at most `m`
+pub injective-le : (k m : ℕ) (f : ℕ → ℕ) → ((p : ℕ) → p < k → f p < m) → ((p q : ℕ) → p < k → q < k → f p ≡ f q → p ≡ q) → k ≤ m
+injective-le k m f low different =
+    let le : length (values f k) ≤ m =
+    nodup-below m (values f k) (values-nodup f k different)
+    (λ x n. let (p, h, e) = values-from f k n in let l : f p < m = low p h in omega arith) in
+    let e : length (values f k) ≡ k = length-values f k in
+    omega arith
+
+-- two tables with the same chains
+pub record SameLinks (m : ℕ) (t t′ : Tables) : Type 0 where
+  pub next-same : (a : ℕ) → a < m → t′ .next a ≡ t .next a
+  pub prev-same : (b : ℕ) → b < m → t′ .prev b ≡ t .prev b
+
+pub matching-same : {m : ℕ} {t t′ : Tables} → Matching m t → SameLinks m t t′ → Matching m t′
+matching-same k s =
+    record {
+      next-le = λ a al. let e = s .next-same a al in let h = k .next-le a al in omega arith;
+      prev-le = λ b bl. let e = s .prev-same b bl in let h = k .prev-le b bl in omega arith;
+      there =
+          λ a b al bl h.
+          let e = s .next-same a al in
+          let f = s .prev-same b bl in
+          let g = k .there a b al bl (omega arith) in
+          omega arith;
+      back =
+          λ a b al bl h.
+          let e = s .next-same a al in
+          let f = s .prev-same b bl in
+          let g = k .back a b al bl (omega arith) in
+          omega arith;
+    }
+
+pub saw-same : {m : ℕ} {t t′ : Tables} {head b tail : ℕ} → Saw m t t′ head b tail → SameLinks m t t′
+saw-same w = record { next-same = w .next-same; prev-same = w .prev-same }
+
+pub saw-matching : {m : ℕ} {t t′ : Tables} {head b tail : ℕ} → Matching m t → Saw m t t′ head b tail → Matching m t′
+saw-matching k w = matching-same k (saw-same w)
+
+pub prepared-searching : {m : ℕ} {R : ℕ → ℕ → Type 0} {t : Tables} {tail : ℕ} → Prepared m t tail → Searching m R t 0 0 tail
+prepared-searching {m} {R} {t} {tail} k =
+    record {
+      head-le = omega arith;
+      tail-le = k .tail-le;
+      queued = k .queued;
+      different = λ p q pl ql e. apart p q pl ql e (decLt p q) (decLt q p);
+      opened = λ p pl. inl (k .ending p pl);
+      all-open = λ a al o. ⊎-elim (k .all a al) (λ s. none (s .0) (s .1) (s .3)) o;
+      bits = λ b bl. let h = k .unseen b bl in omega arith;
+      kept = λ b bl h. none b bl h;
+      came = λ b bl h. none b bl h;
+      shown = λ p b pl bl r. absurd (omega arith);
+      showing = λ b l bl r. absurd (omega arith);
+    }
+  where
+    none : {A : Type 0} (b : ℕ) → b < m → t .seen b ≡ 1 → A
+    none b bl h = let u = k .unseen b bl in let bad : ⊥ = omega arith in absurd bad
+
+    apart : (p q : ℕ) → p < tail → q < tail → t .queue p ≡ t .queue q → Dec (p < q) → Dec (q < p) → p ≡ q
+    apart p q pl ql e (yes l) d = let r = k .rising p q l ql in let bad : ⊥ = omega arith in absurd bad
+    apart p q pl ql e (no nl) (yes l) = let r = k .rising q p l pl in let bad : ⊥ = omega arith in absurd bad
+    apart p q pl ql e (no nl) (no ng) = omega arith
+
+module _ {m : ℕ} {R : ℕ → ℕ → Type 0} {t : Tables} {head from tail : ℕ} where
+  -- an item that the search comes upon, with an item before it
+  pub saw-searching : {t′ : Tables} {b : ℕ} → Matching m t → Searching m R t head from tail → Saw m t t′ head b tail → head < tail → b < m
+      → t .seen b ≡ 0 → 0 < t .prev b → R (t .queue head) b
+      → ((c : ℕ) → from ≤ c → c < b → R (t .queue head) c → t .seen c ≡ 1) → Searching m R t′ head (b + 1) (tail + 1)
+  saw-searching {t′} {b} k s w hd bl new pos r gap =
+      record {
+        head-le = omega arith;
+        tail-le = injective-le (tail + 1) m (t′ .queue) queued different;
+        queued = queued;
+        different = different;
+        opened = λ p h. opened p h (ℕ-discrete p tail);
+        all-open = all-open;
+        bits = λ c cl. bits c cl (ℕ-discrete c b);
+        kept = λ c cl h. kept c cl h (ℕ-discrete c b);
+        came = λ c cl h. came c cl h (ℕ-discrete c b);
+        shown = λ p c h cl q. stays c cl (s .shown p c h cl (rw (w .queue-same p (omega arith)) at q));
+        showing = λ c h cl q. showing c h cl (rw (w .queue-same head hd) at q) (ℕ-discrete c b) (decLt c from);
+      }
+    where
+      low : t′ .queue tail < m
+      low = let e = w .queue-last pos in let h = k .prev-le b bl in omega arith
+
+      behind : t .next (t′ .queue tail) ≡ b + 1
+      behind = let e = w .queue-last pos in k .back (t′ .queue tail) b low bl (omega arith)
+
+      -- the new item was not in the queue: the one behind it was not seen
+      fresh : (p : ℕ) → p < tail → t .queue p ≡ t′ .queue tail → ⊥
+      fresh p h e = ⊎-elim (λ z. omega (arith, f)) seen (s .opened p h)
+        where
+          f : t .next (t .queue p) ≡ b + 1
+          f = rw e behind
+
+          seen : (c : ℕ) × (c < m) × (t .next (t .queue p) ≡ c + 1) × (t .seen c ≡ 1) × (t .via c ≤ p) → ⊥
+          seen (c, cl, g, sc, v) =
+              let same : c ≡ b = omega (arith, f) in
+              let h : t .seen b ≡ 1 = rw same at sc in
+              omega arith
+
+      queued : (p : ℕ) → p < tail + 1 → t′ .queue p < m
+      queued p h = go (ℕ-discrete p tail)
+        where
+          go : Dec (p ≡ tail) → t′ .queue p < m
+          go (yes e) = rw e low
+          go (no ne) =
+              let l : p < tail = omega arith in
+              let e = w .queue-same p l in
+              let q = s .queued p l in
+              omega arith
+
+      different : (p q : ℕ) → p < tail + 1 → q < tail + 1 → t′ .queue p ≡ t′ .queue q → p ≡ q
+      different p q pl ql e = go (ℕ-discrete p tail) (ℕ-discrete q tail)
+        where
+          go : Dec (p ≡ tail) → Dec (q ≡ tail) → p ≡ q
+          go (yes i) (yes j) = omega arith
+          go (yes i) (no j) =
+              let l : q < tail = omega arith in
+              let f = w .queue-same q l in
+              absurd (fresh q l (cc))
+          go (no i) (yes j) =
+              let l : p < tail = omega arith in
+              let f = w .queue-same p l in
+              absurd (fresh p l (cc))
+          go (no i) (no j) =
+              let l : p < tail = omega arith in
+              let l′ : q < tail = omega arith in
+              let f = w .queue-same p l in
+              let f′ = w .queue-same q l′ in
+              s .different p q l l′ (cc)
+
+      not-new : (c : ℕ) → t .seen c ≡ 1 → c ≢ b
+      not-new c h e = let f : t .seen b ≡ 1 = rw e at h in omega arith
+
+      stays : (c : ℕ) → c < m → t .seen c ≡ 1 → t′ .seen c ≡ 1
+      stays c cl h = let e = w .seen-other c cl (not-new c h) in omega arith
+
+      opened : (p : ℕ) → p < tail + 1 → Dec (p ≡ tail)
+          → (t′ .next (t′ .queue p) ≡ 0)
+          ⊎ ((c : ℕ) × (c < m) × (t′ .next (t′ .queue p) ≡ c + 1) × (t′ .seen c ≡ 1) × (t′ .via c ≤ p))
+      opened p h (yes e) =
+          let f = w .next-same (t′ .queue tail) low in
+          let v = w .via-here in
+          inr (b, bl, rw e (omega (arith, behind)), w .seen-here, omega arith)
+      opened p h (no ne) =
+          let l : p < tail = omega arith in
+          let e = w .queue-same p l in
+          let f = w .next-same (t .queue p) (s .queued p l) in
+          ⊎-elim (λ z. inl (cc))
+          (λ (c, cl, g, sc, v).
+          let u = w .via-other c cl (not-new c sc) in
+          inr (c, cl, cc, stays c cl sc, omega arith)) (s .opened p l)
+
+      all-open : (a : ℕ) → a < m → Open m t′ a → (p : ℕ) × (p < tail + 1) × (t′ .queue p ≡ a)
+      all-open a al o = ⊎-elim (λ z. old (inl (omega (arith, e)))) (λ (c, cl, g, sc). go c cl g sc (ℕ-discrete c b)) o
+        where
+          e : t′ .next a ≡ t .next a
+          e = w .next-same a al
+
+          old : Open m t a → (p : ℕ) × (p < tail + 1) × (t′ .queue p ≡ a)
+          old q = let (p, pl, f) = s .all-open a al q in let g = w .queue-same p pl in (p, omega arith, cc)
+
+          go : (c : ℕ) → c < m → t′ .next a ≡ c + 1 → t′ .seen c ≡ 1 → Dec (c ≡ b) → (p : ℕ) × (p < tail + 1) × (t′ .queue p ≡ a)
+          go c cl g sc (yes f) =
+              let h : t .prev b ≡ a + 1 = k .there a b al bl (omega (arith, e)) in
+              let l = w .queue-last pos in
+              (tail, omega arith, omega arith)
+          go c cl g sc (no nf) = let f = w .seen-other c cl nf in old (inr (c, cl, omega (arith, e), omega arith))
+
+      bits : (c : ℕ) → c < m → Dec (c ≡ b) → t′ .seen c < 2
+      bits c cl (yes e) = let h = w .seen-here in rw e (omega arith)
+      bits c cl (no ne) = let h = w .seen-other c cl ne in let f = s .bits c cl in omega arith
+
+      kept : (c : ℕ) → c < m → t′ .seen c ≡ 1 → Dec (c ≡ b) → 0 < t′ .prev c
+      kept c cl h (yes e) = let f = w .prev-same b bl in rw e (omega arith)
+      kept c cl h (no ne) =
+          let f = w .prev-same c cl in
+          let g = w .seen-other c cl ne in
+          let i = s .kept c cl (omega arith) in
+          omega arith
+
+      came : (c : ℕ) → c < m → t′ .seen c ≡ 1 → Dec (c ≡ b) → SeenFrom R t′ (tail + 1) c
+      came c cl h (yes e) = (head, omega arith, rw e (w .via-here), rw (e, w .queue-same head hd) r)
+      came c cl h (no ne) =
+          let g = w .seen-other c cl ne in
+          let u = w .via-other c cl ne in
+          let (p, pl, v, q) = s .came c cl (omega arith) in
+          (p, omega arith, omega arith, rw (w .queue-same p pl) q)
+
+      showing : (c : ℕ) → c < b + 1 → c < m → R (t .queue head) c → Dec (c ≡ b) → Dec (c < from) → t′ .seen c ≡ 1
+      showing c h cl q (yes e) d = rw e (w .seen-here)
+      showing c h cl q (no ne) (yes l) = stays c cl (s .showing c l cl q)
+      showing c h cl q (no ne) (no nl) = stays c cl (gap c (omega arith) (omega arith) q)
+
+  -- the item at `head` has shown all
+  pub item-done : Searching m R t head from tail → head < tail
+      → ((c : ℕ) → from ≤ c → c < m → R (t .queue head) c → t .seen c ≡ 1) → Searching m R t (head + 1) 0 tail
+  item-done s hd gap =
+      record {
+        head-le = omega arith;
+        tail-le = s .tail-le;
+        queued = s .queued;
+        different = s .different;
+        opened = s .opened;
+        all-open = s .all-open;
+        bits = s .bits;
+        kept = s .kept;
+        came = s .came;
+        shown = λ p b h bl r. go p b h bl r (ℕ-discrete p head) (decLt b from);
+        showing = λ b h bl r. absurd (omega arith);
+      }
+    where
+      go : (p b : ℕ) → p < head + 1 → b < m → R (t .queue p) b → Dec (p ≡ head) → Dec (b < from) → t .seen b ≡ 1
+      go p b h bl r (no ne) d = s .shown p b (omega arith) bl r
+      go p b h bl r (yes e) (yes l) = s .showing b l bl (rw e at r)
+      go p b h bl r (yes e) (no nl) = gap b (omega arith) bl (rw e at r)
+
+  -- an item that the search comes upon, with no item before it: the way back can be taken
+  pub found : {t′ : Tables} {b : ℕ} → Matching m t → Searching m R t head from tail → Saw m t t′ head b tail → head < tail → b < m
+      → t .seen b ≡ 0 → t .prev b ≡ 0 → R (t .queue head) b → Trail m R t′ tail × Flipping m R t′ t′ tail b
+  found {t′} {b} k s w hd bl new first r = (
+    record {
+      queued = λ p pl. rw (w .queue-same p pl) (s .queued p pl);
+      different =
+          λ p q pl ql e.
+          let f = w .queue-same p pl in
+          let g = w .queue-same q ql in
+          s .different p q pl ql (cc);
+      earlier = earlier;
+    },
+    record {
+      below = bl;
+      from = (head, hd, w .via-here, rw (w .queue-same head hd) r);
+      next-le = k′ .next-le;
+      prev-le = k′ .prev-le;
+      there = λ a c al cl h. let f = k′ .there a c al cl h in (λ e. none a c e f, f);
+      back = λ a c al cl ne h. k′ .back a c al cl h;
+      pairs = λ a c al cl h. inl h;
+      ends = λ a al h. h;
+      untouched = λ q h. refl;
+    },
+  )
+    where
+      k′ : Matching m t′
+      k′ = saw-matching k w
+
+      none : (a c : ℕ) → c ≡ b → t′ .prev c ≡ a + 1 → ⊥
+      none a c e f =
+          let g : t′ .prev b ≡ a + 1 = rw e at f in
+          let h = w .prev-same b bl in
+          omega arith
+
+      earlier : (p c : ℕ) → p < tail → c < m → t′ .next (t′ .queue p) ≡ c + 1 → SeenFrom R t′ p c
+      earlier p c pl cl h = ⊎-elim (λ z. let bad : ⊥ = omega (arith, e) in absurd bad) go (s .opened p pl)
+        where
+          e : t .next (t .queue p) ≡ c + 1
+          e = let f = w .queue-same p pl in let g = w .next-same (t .queue p) (s .queued p pl) in cc
+
+          go : (d : ℕ) × (d < m) × (t .next (t .queue p) ≡ d + 1) × (t .seen d ≡ 1) × (t .via d ≤ p) → SeenFrom R t′ p c
+          go (d, dl, g, sd, v) =
+              let same : d ≡ c = omega (arith, e) in
+              let sc : t .seen c ≡ 1 = rw same at sd in
+              let vc : t .via c ≤ p = rw same at v in
+              let other : c ≢ b = λ f. let i : t .seen b ≡ 1 = rw f at sc in omega arith in
+              let u = w .via-other c cl other in
+              let (q, ql, i, j) = s .came c cl sc in
+              (q, omega arith, omega arith, rw (w .queue-same q ql) j)
+
+-- a search that has shown all of its queue is exhausted
+pub exhausted : {m : ℕ} {R : ℕ → ℕ → Type 0} {t : Tables} {tail : ℕ} → Searching m R t tail 0 tail → Exhausted m R t
+exhausted {m} {R} {t} {tail} s =
+    record {
+      closed =
+          λ a b al bl o r. let (p, pl, e) = s .all-open a al o in s .shown p b pl bl (rw e r);
+      kept = s .kept;
+      sound = λ b bl h. sound (t .via b + 1) b bl h (omega arith);
+    }
+  where
+    sound : (k b : ℕ) → b < m → t .seen b ≡ 1 → t .via b < k → Reached m R (t .next) b
+    sound zero b bl h l = absurd (omega arith)
+    sound (suc k) b bl h l =
+        let (p, pl, v, r) = s .came b bl h in
+        ⊎-elim (λ e. from-end (s .queued p pl) bl e r)
+        (λ (c, cl, e, sc, u). from-next (s .queued p pl) bl cl e (sound k c cl sc (omega arith)) r) (s .opened p pl)

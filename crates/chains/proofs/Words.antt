@@ -1,0 +1,202 @@
+-- The tables after words are stored: an item is seen, an item is put behind another, and items are put behind themselves.
+use mathlib.Core.Path.{_≡_, sym, _∙_}
+use mathlib.Core.Logic.{_≢_}
+use mathlib.Core.List.{List}
+use Prim.Native.Nat.{ℕ, _+_, _-_, _/_, _≤_, _<_}
+use native.Mathlib.Decide.{ℕ-discrete}
+use native.Mathlib.Omega.{arith}
+use lib.ListN.{length, getD, set, length-set}
+use lib.Seq.{getD-set-same, getD-set-other}
+use Rattle.bits.specs.Bits.{bit, BitSet}
+use Rattle.bits.specs.Work.{nextAt, prevAt, viaAt, queueAt, seenAt, usedWords, Outside}
+use Rattle.chains.specs.Items.{Flipped}
+use Rattle.chains.specs.State.{tables, SawIn, SelvesIn}
+use Rattle.bits.proofs.Frames.{outside-none, outside-set, outside-more, bit-stored}
+
+-- ---- an item is seen
+
+-- `w₁` is `w` with the bit of `b` set
+module _ (w w₁ : List ℕ) (head b tail : ℕ) (fits : usedWords ≤ length w) (below : b < 256) (room : tail < 256) (s : BitSet w w₁ seenAt b) where
+  abbrev seenWords : List ℕ
+  seenWords = set w₁ (viaAt + b) (head + 1)
+
+  abbrev queuedWords : List ℕ
+  queuedWords = set seenWords (queueAt + tail) (getD seenWords (prevAt + b) 0 - 1)
+
+  seen-word : (i : ℕ) → i ≢ viaAt + b → i ≢ seenAt + b / 32 → getD seenWords i 0 ≡ getD w i 0
+  seen-word i far ne = getD-set-other w₁ (viaAt + b) i (head + 1) 0 far ∙ s .words i ne
+
+  seen-bit : (c : ℕ) → c < 256 → bit seenWords seenAt c ≡ bit w₁ seenAt c
+  seen-bit c h = bit-stored w₁ (viaAt + b) (head + 1) seenAt c (λ e. absurd (omega arith))
+
+  seen-via : getD seenWords (viaAt + b) 0 ≡ head + 1
+  seen-via = getD-set-same w₁ (viaAt + b) (head + 1) 0 (omega arith)
+
+  seen-prev : getD seenWords (prevAt + b) 0 ≡ getD w (prevAt + b) 0
+  seen-prev = seen-word (prevAt + b) (λ e. absurd (omega arith)) (λ e. absurd (omega arith))
+
+  seen-outside : Outside viaAt 5128 w seenWords
+  seen-outside =
+      record {
+        same-length = length-set w₁ (viaAt + b) (head + 1) ∙ s .same-length;
+        before = λ i h. seen-word i (λ e. absurd (omega arith)) (λ e. absurd (omega arith));
+        behind = λ i h. seen-word i (λ e. absurd (omega arith)) (λ e. absurd (omega arith));
+      }
+
+  -- where none stands before it
+  pub saw-first : getD seenWords (prevAt + b) 0 ≡ 0 → SawIn w seenWords head b tail
+  saw-first z =
+      record {
+        outside = seen-outside;
+        saw =
+            record {
+              next-same = λ a h. seen-word (nextAt + a) (λ e. absurd (omega arith)) (λ e. absurd (omega arith));
+              prev-same = λ a h. seen-word (prevAt + a) (λ e. absurd (omega arith)) (λ e. absurd (omega arith));
+              via-here = seen-via;
+              via-other = λ c h ne. seen-word (viaAt + c) (λ e. ne (omega arith)) (λ e. absurd (omega arith));
+              queue-same = λ p h. seen-word (queueAt + p) (λ e. absurd (omega arith)) (λ e. absurd (omega arith));
+              queue-last = λ h. absurd (omega (arith, seen-prev));
+              seen-here = seen-bit b below ∙ s .here;
+              seen-other = λ c h ne. seen-bit c h ∙ s .others c ne;
+            };
+      }
+
+  -- where one does, which goes into the queue
+  pub saw-queued : SawIn w queuedWords head b tail
+  saw-queued =
+      record {
+        outside = outside-more (queueAt + tail) x (omega arith) (omega arith) seen-outside;
+        saw =
+            record {
+              next-same = λ a h. word (nextAt + a) (λ e. absurd (omega arith)) (λ e. absurd (omega arith)) (λ e. absurd (omega arith));
+              prev-same = λ a h. word (prevAt + a) (λ e. absurd (omega arith)) (λ e. absurd (omega arith)) (λ e. absurd (omega arith));
+              via-here = other (viaAt + b) (λ e. absurd (omega arith)) ∙ seen-via;
+              via-other = λ c h ne. word (viaAt + c) (λ e. absurd (omega arith)) (λ e. ne (omega arith)) (λ e. absurd (omega arith));
+              queue-same = λ p h. word (queueAt + p) (λ e. absurd (omega arith)) (λ e. absurd (omega arith)) (λ e. absurd (omega arith));
+              queue-last = λ h. omega (arith, seen-prev, last);
+              seen-here = bit-other b below ∙ seen-bit b below ∙ s .here;
+              seen-other = λ c h ne. bit-other c h ∙ seen-bit c h ∙ s .others c ne;
+            };
+      }
+    where
+      x : ℕ
+      x = getD seenWords (prevAt + b) 0 - 1
+
+      other : (i : ℕ) → i ≢ queueAt + tail → getD queuedWords i 0 ≡ getD seenWords i 0
+      other i ne = getD-set-other seenWords (queueAt + tail) i x 0 ne
+
+      word : (i : ℕ) → i ≢ queueAt + tail → i ≢ viaAt + b → i ≢ seenAt + b / 32 → getD queuedWords i 0 ≡ getD w i 0
+      word i ne far away = other i ne ∙ seen-word i far away
+
+      last : getD queuedWords (queueAt + tail) 0 ≡ x
+      last = getD-set-same seenWords (queueAt + tail) x 0 (simp length-set (omega arith))
+
+      bit-other : (c : ℕ) → c < 256 → bit queuedWords seenAt c ≡ bit seenWords seenAt c
+      bit-other c h = bit-stored seenWords (queueAt + tail) x seenAt c (λ e. absurd (omega arith))
+
+-- ---- an item is put behind another
+
+module _ (w : List ℕ) (a b : ℕ) (fits : usedWords ≤ length w) (from : a < 256) (below : b < 256) where
+  abbrev pairWords : List ℕ
+  pairWords = set (set w (nextAt + a) (b + 1)) (prevAt + b) (a + 1)
+
+  pub paired-outside : Outside nextAt viaAt w pairWords
+  paired-outside =
+      outside-more (prevAt + b) (a + 1) (omega arith) (omega arith) (outside-set w (nextAt + a) (b + 1) (omega arith) (omega arith))
+
+  pub paired : Flipped 256 (tables w) (tables pairWords) a b
+  paired =
+      record {
+        next-here = second (nextAt + a) (λ e. absurd (omega arith)) ∙ getD-set-same w (nextAt + a) (b + 1) 0 (omega arith);
+        next-other = λ c h ne. second (nextAt + c) (λ e. absurd (omega arith)) ∙ first (nextAt + c) (λ e. ne (omega arith));
+        prev-here = getD-set-same (set w (nextAt + a) (b + 1)) (prevAt + b) (a + 1) 0 (simp length-set (omega arith));
+        prev-other = λ c h ne. second (prevAt + c) (λ e. ne (omega arith)) ∙ first (prevAt + c) (λ e. absurd (omega arith));
+      }
+    where
+      first : (i : ℕ) → i ≢ nextAt + a → getD (set w (nextAt + a) (b + 1)) i 0 ≡ getD w i 0
+      first i ne = getD-set-other w (nextAt + a) i (b + 1) 0 ne
+
+      second : (i : ℕ) → i ≢ prevAt + b → getD pairWords i 0 ≡ getD (set w (nextAt + a) (b + 1)) i 0
+      second i ne = getD-set-other (set w (nextAt + a) (b + 1)) (prevAt + b) i (a + 1) 0 ne
+
+-- ---- items are put behind themselves
+
+-- those before `a` stand behind themselves, but for `v`
+pub record Selving (m v : ℕ) (w₀ w : List ℕ) (a : ℕ) : Type 0 where
+  pub up-to : a ≤ m
+  pub outside : Outside nextAt viaAt w₀ w
+  pub next-end : tables w .next v ≡ 0
+  pub prev-end : tables w .prev v ≡ 0
+  pub next-self : (x : ℕ) → x < a → x ≢ v → tables w .next x ≡ x + 1
+  pub prev-self : (x : ℕ) → x < a → x ≢ v → tables w .prev x ≡ x + 1
+
+pub selving-none : (m v : ℕ) (w : List ℕ) → v < m → m < 256 → ((i : ℕ) → nextAt ≤ i → i < viaAt → getD w i 0 ≡ 0) → Selving m v w w 0
+selving-none m v w h k z =
+    record {
+      up-to = omega arith;
+      outside = outside-none nextAt viaAt w;
+      next-end = z (nextAt + v) (omega arith) (omega arith);
+      prev-end = z (prevAt + v) (omega arith) (omega arith);
+      next-self = λ x l ne. absurd (omega arith);
+      prev-self = λ x l ne. absurd (omega arith);
+    }
+
+module _ (m v : ℕ) (w₀ w : List ℕ) (a : ℕ) (few : m < 256) (below : v < m) (s : Selving m v w₀ w a) where
+  pub selving-skip : a < m → a ≡ v → Selving m v w₀ w (a + 1)
+  selving-skip h e =
+      record {
+        up-to = omega arith;
+        outside = s .outside;
+        next-end = s .next-end;
+        prev-end = s .prev-end;
+        next-self = λ x l ne. s .next-self x (earlier x l ne) ne;
+        prev-self = λ x l ne. s .prev-self x (earlier x l ne) ne;
+      }
+    where
+      earlier : (x : ℕ) → x < a + 1 → x ≢ v → x < a
+      earlier x l ne = go (ℕ-discrete x a)
+        where
+          go : Dec (x ≡ a) → x < a
+          go (yes f) = absurd (ne (f ∙ e))
+          go (no f) = omega arith
+
+  pub selving-more : usedWords ≤ length w₀ → a < m → a ≢ v → Selving m v w₀ (set (set w (nextAt + a) (a + 1)) (prevAt + a) (a + 1)) (a + 1)
+  selving-more fits h ne =
+      record {
+        up-to = omega arith;
+        outside =
+            outside-more (prevAt + a) (a + 1) (omega arith) (omega arith)
+            (outside-more (nextAt + a) (a + 1) (omega arith) (omega arith) (s .outside));
+        next-end = p .next-other v (omega arith) (λ e. ne (sym e)) ∙ s .next-end;
+        prev-end = p .prev-other v (omega arith) (λ e. ne (sym e)) ∙ s .prev-end;
+        next-self = λ x l away. next x l away (ℕ-discrete x a);
+        prev-self = λ x l away. prev x l away (ℕ-discrete x a);
+      }
+    where
+      w′ : List ℕ
+      w′ = set (set w (nextAt + a) (a + 1)) (prevAt + a) (a + 1)
+
+      p : Flipped 256 (tables w) (tables w′) a a
+      p = paired w a a (omega (arith, s .outside .same-length)) (omega arith) (omega arith)
+
+      next : (x : ℕ) → x < a + 1 → x ≢ v → Dec (x ≡ a) → tables w′ .next x ≡ x + 1
+      next x l away (yes e) = rw e (p .next-here)
+      next x l away (no e) = p .next-other x (omega arith) e ∙ s .next-self x (omega arith) away
+
+      prev : (x : ℕ) → x < a + 1 → x ≢ v → Dec (x ≡ a) → tables w′ .prev x ≡ x + 1
+      prev x l away (yes e) = rw e (p .prev-here)
+      prev x l away (no e) = p .prev-other x (omega arith) e ∙ s .prev-self x (omega arith) away
+
+  pub selving-done : m ≤ a → SelvesIn w₀ w m v
+  selving-done h =
+      record {
+        outside = s .outside;
+        selves =
+            record {
+              below = below;
+              next-end = s .next-end;
+              prev-end = s .prev-end;
+              next-self = λ x l ne. s .next-self x (omega arith) ne;
+              prev-self = λ x l ne. s .prev-self x (omega arith) ne;
+            };
+      }

@@ -1,0 +1,154 @@
+// Chains of items in the work words: an augmenting search joins two chains, until none is found.
+ghost use mathlib.Core.Path.{_≡_};
+ghost use Prim.Native.Nat.{ℕ, _+_, _-_, _<_, _≤_};
+ghost use lib.ListN.{length, getD};
+ghost use Rattle.bits.specs.Work.{linksAt, nextAt, viaAt, usedWords};
+ghost use Rattle.chains.specs.Items.{Matching, Searching};
+ghost use Rattle.chains.specs.State.{tables, Pairs, Sized, PreparedIn, SawIn, ShownIn, SearchedIn, FlippedIn, ShrunkIn, JoinedIn, SelvesIn, LoopedIn};
+use bits::LINKS;
+use bits::NEXT;
+use bits::NONE;
+use bits::PREV;
+use bits::QUEUE;
+use bits::SEEN;
+use bits::VIA;
+
+// Puts the items that end a chain into the queue, and gives their count. Nothing is seen.
+fn prepare(w: &mut [u32], m: usize) -> usize
+    requires { ⌜ (usedWords ≤ length (now w)) × (m < 256) ⌝ }
+    ensures { λ r. ⌜ PreparedIn (now (w .entry)) (now (w .exit)) m r ⌝ }
+{
+    let from = SEEN;
+    let to = NONE;
+    bits::clear(&mut w[from..to]);
+    let mut tail = 0;
+    let mut a = 0;
+    while a < m {
+        if w[NEXT + a] == 0 {
+            w[QUEUE + tail] = a as u32;
+            tail += 1;
+        }
+        a += 1;
+    }
+    tail
+}
+
+// Marks `b` as seen from the place `head`; the item before it, if there is one, goes into the queue at `tail`.
+fn see(w: &mut [u32], head: usize, b: usize, tail: usize)
+    requires { ⌜ (usedWords ≤ length (now w)) × (head < 256) × (b < 256) × (tail < 256) ⌝ }
+    ensures { λ _. ⌜ SawIn (now (w .entry)) (now (w .exit)) head b tail ⌝ }
+{
+    bits::set_bit(w, SEEN, b);
+    w[VIA + b] = (head + 1) as u32;
+    let before = w[PREV + b];
+    if before != 0 {
+        w[QUEUE + tail] = before - 1;
+    }
+}
+
+// An item and the end of the queue.
+struct Shown {
+    item: usize,
+    tail: usize,
+}
+
+// Sees what the item at `head` of the queue has in the matrix at `base`, up to an item with none before it; the item is `m` where there
+// is no such item.
+fn show(w: &mut [u32], base: usize, m: usize, head: usize, tail: usize) -> Shown
+    requires { ⌜ Sized (now w) base m × Matching m (tables (now w)) × Searching m (Pairs base (now w)) (tables (now w)) head 0 tail × (head < tail) ⌝ }
+    ensures { λ r. ⌜ ShownIn (now (w .entry)) (now (w .exit)) base m head (r .item) (r .tail) ⌝ }
+{
+    let row = base + 8 * w[QUEUE + head] as usize;
+    let mut end = tail;
+    let mut b = bits::next_new(w, row, SEEN, 0);
+    while b < m {
+        see(w, head, b, end);
+        if w[PREV + b] == 0 {
+            return Shown { item: b, tail: end };
+        }
+        end += 1;
+        b = bits::next_new(w, row, SEEN, b + 1);
+    }
+    Shown { item: m, tail: end }
+}
+
+// Searches for an item with none before it, from the items that end a chain; `m` where there is none.
+fn search(w: &mut [u32], base: usize, m: usize) -> usize
+    requires { ⌜ Sized (now w) base m × Matching m (tables (now w)) ⌝ }
+    ensures { λ r. ⌜ SearchedIn (now (w .entry)) (now (w .exit)) base m r ⌝ }
+{
+    let mut tail = prepare(w, m);
+    let mut head = 0;
+    while head < tail {
+        let shown = show(w, base, m, head, tail);
+        let item = shown.item;
+        if item < m {
+            return item;
+        }
+        tail = shown.tail;
+        head += 1;
+    }
+    m
+}
+
+// Puts `b` behind the item from which it was seen, and gives what stood there before, plus one.
+fn flip(w: &mut [u32], b: usize) -> usize
+    requires { ⌜ (usedWords ≤ length (now w)) × (b < 256) × (0 < tables (now w) .via b) × (tables (now w) .via b ≤ 256) × (tables (now w) .queue (tables (now w) .via b - 1) < 256) ⌝ }
+    ensures { λ r. ⌜ FlippedIn (now (w .entry)) (now (w .exit)) b r ⌝ }
+{
+    let place = w[VIA + b] as usize - 1;
+    let a = w[QUEUE + place] as usize;
+    let old = w[NEXT + a] as usize;
+    w[NEXT + a] = (b + 1) as u32;
+    w[PREV + b] = (a + 1) as u32;
+    old
+}
+
+// One chain fewer, if there can be.
+fn shrink(w: &mut [u32], base: usize, m: usize) -> bool
+    requires { ⌜ Sized (now w) base m × Matching m (tables (now w)) ⌝ }
+    ensures { λ r. ⌜ ShrunkIn (now (w .entry)) (now (w .exit)) base m r ⌝ }
+{
+    let found = search(w, base, m);
+    if found == m {
+        return false;
+    }
+    let mut old = flip(w, found);
+    while old != 0 {
+        old = flip(w, old - 1);
+    }
+    true
+}
+
+// From single items to as few chains as can be.
+pub fn join(w: &mut [u32], base: usize, m: usize)
+    requires { ⌜ Sized (now w) base m × ((i : ℕ) → nextAt ≤ i → i < viaAt → getD (now w) i 0 ≡ 0) ⌝ }
+    ensures { λ _. ⌜ JoinedIn (now (w .entry)) (now (w .exit)) base m ⌝ }
+{
+    while shrink(w, base, m) {}
+}
+
+// Puts each item but `v` behind itself.
+fn behind_itself(w: &mut [u32], m: usize, v: usize)
+    requires { ⌜ (usedWords ≤ length (now w)) × (m < 256) × (v < m) × ((i : ℕ) → nextAt ≤ i → i < viaAt → getD (now w) i 0 ≡ 0) ⌝ }
+    ensures { λ _. ⌜ SelvesIn (now (w .entry)) (now (w .exit)) m v ⌝ }
+{
+    let mut a = 0;
+    while a < m {
+        if a != v {
+            w[NEXT + a] = (a + 1) as u32;
+            w[PREV + a] = (a + 1) as u32;
+        }
+        a += 1;
+    }
+}
+
+// Finds a loop through `v`: a shortest walk of links from `v` to `v` is what an augmenting search shows where each other item is behind
+// itself.
+pub fn find_loop(w: &mut [u32], m: usize, v: usize)
+    requires { ⌜ (usedWords ≤ length (now w)) × (m < 256) × (v < m) × ((i : ℕ) → nextAt ≤ i → i < viaAt → getD (now w) i 0 ≡ 0) ⌝ }
+    ensures { λ _. ⌜ LoopedIn (now (w .entry)) (now (w .exit)) m v ⌝ }
+{
+    behind_itself(w, m, v);
+    shrink(w, LINKS, m);
+}

@@ -1,0 +1,2 @@
+-- The matrix of ways of a log.
+pub mod Reach

@@ -1,0 +1,110 @@
+-- From the links and ways in the work words to a loop or a report.
+use mathlib.Core.Path.{_≡_, sym, subst}
+use mathlib.Core.List.{List}
+use Prim.Native.Nat.{ℕ, _+_, _*_, _≤_, _<_}
+use native.Mathlib.Omega.{arith}
+use Rattle.paths.specs.Graph.{Graph, Way, Acyclic}
+use Rattle.paths.proofs.Ways.{way-first}
+use Rattle.bits.specs.Bits.{bit}
+use Rattle.bits.specs.Work.{waysAt, seenAt}
+use Rattle.bits.proofs.Rows.{bit-lt}
+use Rattle.reach.specs.Reach.{FirstLoop}
+use Rattle.bits.proofs.Frames.{matrix-before}
+use Rattle.chains.specs.Items.{members}
+use Rattle.chains.specs.Threads.{ThreadsOf}
+use Rattle.chains.specs.State.{tables, JoinedIn, LoopedIn}
+use Rattle.chains.proofs.Members.{members-rising}
+use Rattle.chains.proofs.Relations.{exhausted-within}
+use Rattle.chains.proofs.Cycle.{loop-least}
+use Rattle.chains.proofs.Reports as reports
+use Rattle.writing.specs.Writing.{Solved, ReportWritten, Looping, LoopWritten}
+use Rattle.report.specs.Report.{Reported, ShowsLoop, ShowsReport}
+use Rattle.report.specs.Solving.{Ready}
+
+-- what is proved of the chains, as a report
+reported-here : {g : Graph} {w : List ℕ} → Solved g (g .n) w → (ts : List (List ℕ)) → ThreadsOf g (tables w .next) (members (tables w) (g .n)) ts
+    → Reported g (members (tables w) (g .n)) ts
+reported-here {g} {w} s ts h =
+    let bits : (b : ℕ) → b < g .n → bit w seenAt b < 2 = λ b l. bit-lt w seenAt b in
+    record {
+      acyclic = s .acyclic;
+      cover = reports.cover (s .acyclic) (s .matching) (s .pairs) bits (s .exhausted) ts h;
+      smallest = reports.smallest (s .acyclic) (s .matching) (s .pairs) bits (s .exhausted) ts h;
+      furthest = reports.furthest (s .acyclic) (s .matching) (s .pairs) bits (s .exhausted);
+      rising = members-rising (tables w) (g .n);
+      paired =
+          record {
+            same = reports.same-length (s .acyclic) (s .matching) (s .pairs) bits (s .exhausted) ts h;
+            holds = reports.thread-member (s .acyclic) (s .matching) (s .pairs) bits (s .exhausted) ts h;
+            alone = reports.thread-member-only (s .acyclic) (s .matching) (s .pairs) bits (s .exhausted) ts h;
+          };
+    }
+
+reported : {g : Graph} {n : ℕ} {w : List ℕ} → Solved g n w → (ts : List (List ℕ)) → ThreadsOf g (tables w .next) (members (tables w) n) ts
+    → Reported g (members (tables w) n) ts
+reported {g} {n} {w} s =
+    subst
+    (λ (k : ℕ).
+    Solved g k w → (ts : List (List ℕ)) → ThreadsOf g (tables w .next) (members (tables w) k) ts → Reported g (members (tables w) k) ts)
+    (s .count) reported-here s
+
+module _ {g : Graph} {n v : ℕ} {w : List ℕ} (ready : Ready g n w) (first : FirstLoop w n v) where
+  -- what comes before `v` has no way to itself
+  none-before : (u : ℕ) → u < v → Way g u u → ⊥
+  none-before u h way =
+      let none : bit w (waysAt + 8 * u) u ≡ 0 = first .first u h in
+      let few : n < 256 = ready .few in
+      let most : v ≤ n = first .at-most in
+      let one : bit w (waysAt + 8 * u) u ≡ 1 = ready .ways .complete u u (omega arith) (omega arith) way in
+      omega arith
+
+  module _ {w′ : List ℕ} (below : v < n) (looped : LoopedIn w w′ n v) where
+    pub looping : Looping g n v w′
+    looping =
+        let few : n < 256 = ready .few in
+        let (t, selves, shrunk) =
+        looped .shrunk g (ready .ends) (ready .count) (ready .links) (ready .ways .sound v v (omega arith) (omega arith) (first .here below)) in
+        record {
+          count = ready .count;
+          few = ready .few;
+          long = rw (looped .outside .same-length) (ready .long);
+          selves = t;
+          selves-are = selves;
+          shrunk = shrunk;
+        }
+
+    pub loop-answered : {o o′ : List ℕ} {r : ℕ} → LoopWritten w′ o o′ n v r → ShowsLoop g r o o′
+    loop-answered d =
+        let (l, starts) = d .of g looping in (
+          d .loop,
+          record { loop = l; smallest-first = rw starts (loop-least none-before l) },
+          sym (d .size),
+          d .words,
+        )
+
+  acyclic : n ≤ v → Acyclic g
+  acyclic none u way = none-before u (let h : u < g .n = way-first (ready .ends) way in omega (arith, ready .count)) way
+
+  module _ {w′ : List ℕ} (none : n ≤ v) (joined : JoinedIn w w′ waysAt n) where
+    pub solved : Solved g n w′
+    solved =
+        let few : n < 256 = ready .few in
+        record {
+          count = ready .count;
+          few = ready .few;
+          long = rw (joined .outside .same-length) (ready .long);
+          ends = ready .ends;
+          acyclic = acyclic none;
+          links = matrix-before (omega arith) (joined .outside) (ready .links);
+          ways = matrix-before (omega arith) (joined .outside) (ready .ways);
+          none = λ i lo hi. let e = joined .outside .behind i (omega arith) in let z = ready .empty i (omega arith) (omega arith) in omega arith;
+          matching = joined .matching;
+          pairs = λ a b ha hb e. ready .ways .sound a b (omega arith) (omega arith) (joined .pairs a b ha hb e);
+          exhausted =
+              exhausted-within (λ a b ha hb p. ready .ways .sound a b (omega arith) (omega arith) p)
+              (λ a b ha hb p. ready .ways .complete a b (omega arith) (omega arith) p) (joined .exhausted);
+        }
+
+    pub report-answered : {o o′ : List ℕ} {r : ℕ} → ReportWritten w′ o o′ n r → ShowsReport g r o o′
+    report-answered d =
+        (members (tables w′) n, d .threads, reported solved (d .threads) (d .of g solved), sym (d .size), d .words)

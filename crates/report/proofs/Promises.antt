@@ -1,0 +1,137 @@
+-- What is promised of logs and of report calls, each statement in full; the proofs are in the modules that are named. Of a call is said
+-- what its contract says, `Left m l o w o′ w′ r`: `m` are the ceilings, any of them, the service's `service` included; `l` is the log, `o` and
+-- `w` are the output and the work buffer at entry, `o′` and `w′` at exit, and `r` is the outcome, of which `outcomeAnswer` gives the
+-- scope's numbers. The report's words are the first `c` of the output, `take c o′`, where `c` is the count that the outcome gives.
+use mathlib.Core.Path.{_≡_, subst}
+use mathlib.Core.Logic.{_↔_}
+use mathlib.Core.List.{List, _++_}
+use Prim.Native.Nat.{ℕ, _≤_}
+use lib.ListN.{length, take, drop, getD}
+use Rattle.order.specs.Order.{All}
+use Rattle.paths.specs.Graph.{Cover, Apart, Smallest, Largest, Width, Furthest, Rising, Loop}
+use Rattle.paths.proofs.Theorems as graphs
+use Rattle.log.specs.Words.{kind, number}
+use Rattle.log.specs.Answer.{given, refused}
+use Rattle.log.specs.Log.{graphOf}
+use Rattle.log.specs.declared.Ceilings.{Ceilings}
+use Rattle.writing.specs.Layout.{reportWords, loopWords, reportNeed, apartOf, threadsOf, BeginsWith}
+use Rattle.report.specs.Report.{outcomeAnswer, asked, cleared, Paired, Reported, LoopShown, Passes, Left}
+use Rattle.report.specs.Accepted.{Accepted, LentEnough}
+use Rattle.report.specs.declared.Outcome.{Outcome}
+use Rattle.report.proofs.SmallLogs as small
+use Rattle.report.proofs.SmallLogs.{Right, rows}
+use Rattle.report.proofs.Reported as calls
+use Rattle.report.proofs.Reported.{accepted-ends, accepted-acyclic, accepted-passes, passes-enough}
+
+-- 1. Of every accepted log.
+module _ (m : Ceilings) (l : List ℕ) (accepted : Accepted m l) where
+  -- Duality: a cover and an apart set have equal numbers exactly when no cover has fewer threads and no apart set more members.
+  pub duality : (ts : List (List ℕ)) (s : List ℕ) → Cover (graphOf l) ts → Apart (graphOf l) s
+      → (length ts ≡ length s) ↔ (Smallest (graphOf l) ts × Largest (graphOf l) s)
+  duality = graphs.duality (graphOf l) (accepted-ends m l accepted) (accepted-acyclic m l accepted)
+
+  -- The width is there, it is one number, and it is the size of the largest apart set.
+  pub width : (k : ℕ) × Width (graphOf l) k
+      × ((j : ℕ) → Width (graphOf l) j → j ≡ k)
+      × ((s : List ℕ) × Apart (graphOf l) s × Largest (graphOf l) s × (length s ≡ k))
+  width = calls.width-and-apart (graphOf l) (accepted-ends m l accepted) (accepted-acyclic m l accepted)
+
+-- 2. Of every report call.
+module _ (m : Ceilings) (l o w o′ w′ : List ℕ) (r : Outcome) (left : Left m l o w o′ w′ r) where
+  -- An accepted log whose lent buffers pass questions 11 and 12 gets a report. Its threads are a cover, its apart set is one, and the
+  -- two numbers, each counted from the words, are equal. So it is for the empty log too.
+  pub report-given : Accepted m l → LentEnough l (length o) (length w)
+      → (c : ℕ) × (outcomeAnswer r ≡ given c)
+      × Cover (graphOf l) (threadsOf (take c o′))
+      × Apart (graphOf l) (apartOf (take c o′))
+      × (length (threadsOf (take c o′)) ≡ length (apartOf (take c o′)))
+  report-given accepted enough =
+      let passes = accepted-passes m l accepted (length o) (length w) enough in
+      let (c, e) = calls.acyclic-given m l o w o′ w′ r passes (accepted-acyclic m l accepted) left in
+      let d = calls.given-left m l o w o′ w′ r c left e .reported in
+      (c, e, d .cover, d .furthest .apart, d .paired .same)
+
+  -- An accepted log gets a report exactly when the lent buffers pass questions 11 and 12.
+  pub report-exactly : Accepted m l → ((c : ℕ) × (outcomeAnswer r ≡ given c)) ↔ LentEnough l (length o) (length w)
+  report-exactly accepted = (
+    λ (c, e). passes-enough m l (length o) (length w) (calls.given-left m l o w o′ w′ r c left e .passes),
+    λ enough. let g = report-given accepted enough in (g .0, g .1),
+  )
+
+  -- The outcome is refusal 13 exactly when the log passes questions 1 to 12 and its graph has a loop.
+  pub loop-exactly : ((k : ℕ) × (outcomeAnswer r ≡ refused 13 k))
+      ↔ (Passes m l (length o) (length w) × ((c : List ℕ) × Loop (graphOf l) c))
+  loop-exactly = (
+    λ (k, e). let d = calls.refused-left m l o w o′ w′ r k left e in (d .passes, (d .loop, d .shown .loop)),
+    λ (passes, (c, loop)). calls.loop-refused m l o w o′ w′ r c passes loop left,
+  )
+
+  -- Then the output begins with a loop's words, its smallest episode first, and is unchanged behind them. The place is the loop's length.
+  -- The first 16,384 work words are zero and the others unchanged.
+  pub loop-shown : (k : ℕ) → outcomeAnswer r ≡ refused 13 k
+      → ((c : List ℕ) × LoopShown (graphOf l) c × (length c ≡ k) × BeginsWith (loopWords c) o o′) × (w′ ≡ cleared w)
+  loop-shown k e = let d = calls.refused-left m l o w o′ w′ r k left e in ((d .loop, d .shown, d .count, d .begins), d .work)
+
+  -- The outcome is refusal 1 to 12 exactly when questions 1 to 12 refuse with that number and place. It changes no buffer.
+  pub refused-exactly : (q p : ℕ) → q ≤ 12
+      → (outcomeAnswer r ≡ refused q p) ↔ (asked m (λ n t. reportNeed n) l (length o) (length w) ≡ refused q p)
+  refused-exactly q p h = (λ e. calls.refused-asked m l o w o′ w′ r q p h left e .0, calls.asked-refused m l o w o′ w′ r q p left)
+
+  pub refused-unchanged : (q p : ℕ) → q ≤ 12 → outcomeAnswer r ≡ refused q p → (o′ ≡ o) × (w′ ≡ w)
+  refused-unchanged q p h e = let d = calls.refused-asked m l o w o′ w′ r q p h left e in (d .1, d .2)
+
+-- 3. Of every report call with the outcome of a report.
+module _ (m : Ceilings) (l o w o′ w′ : List ℕ) (r : Outcome) (left : Left m l o w o′ w′ r) (c : ℕ) (e : outcomeAnswer r ≡ given c) where
+  -- what the proofs below cite
+  d : calls.ReportLeft m l o w o′ w′ c
+  d = calls.given-left m l o w o′ w′ r c left e
+
+  -- The log is an accepted one.
+  pub report-accepted : Accepted m l
+  report-accepted = calls.report-accepted m l o w o′ w′ c d
+
+  -- The words are those of the apart set and the threads that they give, and no others.
+  pub report-words : take c o′ ≡ reportWords (apartOf (take c o′)) (threadsOf (take c o′))
+  report-words = d .words
+
+  -- Word 0 is of kind 4 and its number is the width. So are the number of threads and the number of the apart set's members.
+  pub report-width : (kind (getD (take c o′) 0 0) ≡ 4) × Width (graphOf l) (number (getD (take c o′) 0 0))
+  report-width = calls.report-width m l o w o′ w′ c d
+
+  pub both-width : Width (graphOf l) (length (threadsOf (take c o′))) × Width (graphOf l) (length (apartOf (take c o′)))
+  both-width =
+      let k = calls.threads-width m l o w o′ w′ c d in
+      (k, subst (Width (graphOf l)) (d .reported .paired .same) k)
+
+  -- Behind its words the output is unchanged; the first 16,384 work words are zero and the others unchanged.
+  pub report-rest : (o′ ≡ take c o′ ++ drop c o) × (w′ ≡ cleared w)
+  report-rest = (d .unchanged, d .work)
+
+  -- No cover has fewer threads.
+  pub none-smaller : Cover (graphOf l) (threadsOf (take c o′)) × Smallest (graphOf l) (threadsOf (take c o′))
+  none-smaller = (d .reported .cover, d .reported .smallest)
+
+  -- The apart set is the furthest, and it is rising. It is the one of its kind: any other that rises and is the furthest is equal.
+  pub apart-furthest : Furthest (graphOf l) (apartOf (take c o′)) × Rising (apartOf (take c o′))
+  apart-furthest = (d .reported .furthest, d .reported .rising)
+
+  pub one-furthest : (s : List ℕ) → Furthest (graphOf l) s → Rising s → s ≡ apartOf (take c o′)
+  one-furthest s f h =
+      graphs.one-furthest (graphOf l) (d .reported .acyclic) s (apartOf (take c o′)) f (d .reported .furthest) h (d .reported .rising)
+
+  -- Thread i holds member i of the apart set and no other member.
+  pub thread-and-member : Paired (apartOf (take c o′)) (threadsOf (take c o′))
+  thread-and-member = d .reported .paired
+
+-- 4. Every report, and every loop, fits the words that question 11 asks for.
+pub report-fits : (l apart : List ℕ) (threads : List (List ℕ)) → Reported (graphOf l) apart threads
+    → length (reportWords apart threads) ≤ reportNeed (graphOf l .n)
+report-fits l = calls.reported-fits
+
+pub loop-fits : (l c : List ℕ) → Loop (graphOf l) c → length (loopWords c) ≤ reportNeed (graphOf l .n)
+loop-fits l = calls.loop-fits
+
+-- 5. The scope's small logs, with the service's ceilings: a log passes questions 1 to 10 with its row's numbers, and what its row says holds
+-- of every call on it.
+pub small-logs : All Right rows
+small-logs = small.small-logs

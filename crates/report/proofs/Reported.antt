@@ -1,0 +1,229 @@
+-- What a report call that meets the contract leaves, read back from the words that it has written.
+use mathlib.Core.Path.{_≡_, refl, sym, ap, subst, _∙_}
+use mathlib.Core.List.{List, _++_}
+use Prim.Native.Nat.{ℕ, _≤_, _<_}
+use native.Mathlib.Omega.{arith}
+use lib.ListN.{length, take, drop, getD}
+use lib.Seq.{take-at}
+use Rattle.order.specs.Order.{All}
+use Rattle.paths.specs.Graph.{Graph, EndsBelow, Acyclic, Apart, Largest, Width, Loop}
+use Rattle.paths.proofs.Theorems.{
+  equal-pair,
+  duality,
+  width-unique,
+  different-below,
+  thread-different,
+  acyclic-no-loop,
+  loop-to-way,
+}
+use Rattle.log.specs.Words.{kind, number, word}
+use Rattle.log.specs.Answer.{Answer, given, refused}
+use Rattle.log.specs.Log.{questions, graphOf}
+use Rattle.log.specs.declared.Ceilings.{Ceilings}
+use Rattle.log.proofs.Words.{number-lt, kind-word, number-word}
+use Rattle.log.proofs.Laws.{graph-episodes, graph-count, links-below}
+use Rattle.writing.specs.Layout.{reportWords, loopWords, reportNeed, apartOf, threadsOf, BeginsWith}
+use Rattle.report.specs.Report.{outcomeAnswer, asked, cleared, Reported, LoopShown, Passes, Left}
+use Rattle.report.specs.Accepted.{Accepted, LentEnough}
+use Rattle.report.specs.declared.Outcome.{Outcome}
+use Rattle.report.specs.declared.Outcome.the-variants.{Report, Loop as Looped, Refused}
+use Rattle.writing.proofs.Layouts.{Small, SmallThread, length-loop, report-fits-need, report-head, apart-of-report, threads-of-report}
+use Rattle.report.proofs.Asked.{asked-passes, asked-given, asked-most}
+
+-- A report on a graph with few enough episodes for a word is read back from its words.
+module _ {g : Graph} {apart : List ℕ} {threads : List (List ℕ)} (few : Small (g .n)) (reported : Reported g apart threads) where
+  -- it has no more members than episodes, and all its numbers fit a word
+  apart-few : length apart ≤ g .n
+  apart-few = different-below (g .n) apart (reported .furthest .apart .antichain .once) (reported .furthest .apart .episodes)
+
+  apart-small : All Small apart
+  apart-small v m = let h : v < g .n = reported .furthest .apart .episodes v m in omega arith
+
+  threads-small : All SmallThread threads
+  threads-small t m =
+      let thread = reported .cover .threads t m in
+      let short : length t ≤ g .n = different-below (g .n) t (thread-different (reported .acyclic) thread) (thread .episodes) in
+      (omega arith, λ v i. let h : v < g .n = thread .episodes v i in omega arith)
+
+  pub apart-read : apartOf (reportWords apart threads) ≡ apart
+  apart-read = apart-of-report apart threads (omega (arith, apart-few)) apart-small threads-small
+
+  pub threads-read : threadsOf (reportWords apart threads) ≡ threads
+  threads-read = threads-of-report apart threads (omega (arith, apart-few)) apart-small threads-small
+
+-- Every report, and every loop, fits the words that the caller lends
+pub reported-fits : {g : Graph} (apart : List ℕ) (threads : List (List ℕ)) → Reported g apart threads
+    → length (reportWords apart threads) ≤ reportNeed (g .n)
+reported-fits apart threads r =
+    report-fits-need (r .acyclic) apart threads (r .cover) (r .furthest .apart) (r .paired .same)
+
+pub loop-fits : {g : Graph} (c : List ℕ) → Loop g c → length (loopWords c) ≤ reportNeed (g .n)
+loop-fits {g} c o = omega (arith, length-loop c, different-below (g .n) c (o .once) (o .episodes))
+
+-- What a call with the outcome of a report leaves, told by the words that stand in the output: `c` is their count.
+pub record ReportLeft (m : Ceilings) (l o w o′ w′ : List ℕ) (c : ℕ) : Type 0 where
+  pub passes : Passes m l (length o) (length w)
+  pub reported : Reported (graphOf l) (apartOf (take c o′)) (threadsOf (take c o′))
+  pub count : length (take c o′) ≡ c
+  pub words : take c o′ ≡ reportWords (apartOf (take c o′)) (threadsOf (take c o′))
+  pub unchanged : o′ ≡ take c o′ ++ drop c o
+  pub work : w′ ≡ cleared w
+
+-- What a call with the outcome of a loop leaves.
+pub record LoopLeft (m : Ceilings) (l o w o′ w′ : List ℕ) (k : ℕ) : Type 0 where
+  pub passes : Passes m l (length o) (length w)
+  pub loop : List ℕ
+  pub shown : LoopShown (graphOf l) loop
+  pub count : length loop ≡ k
+  pub begins : BeginsWith (loopWords loop) o o′
+  pub work : w′ ≡ cleared w
+
+-- The contract, so told.
+module _ (m : Ceilings) (l o w o′ w′ : List ℕ) where
+  report-left : (c : ℕ) → Left m l o w o′ w′ (Report c) → ReportLeft m l o w o′ w′ c
+  unfolding Left
+  report-left c (passes, (apart, threads, reported, count, begins), work) =
+      let ws : List ℕ = reportWords apart threads in
+      let few : Small (graphOf l .n) = number-lt (getD l 0 0) in
+      let at : take c o′ ≡ ws = rw (begins .1) (take-at ws (drop (length ws) o) c count) in
+      let a : apartOf (take c o′) ≡ apart = rw at (apart-read few reported) in
+      let t : threadsOf (take c o′) ≡ threads = rw at (threads-read few reported) in
+      record {
+        passes = passes;
+        reported = rw (a, t) reported;
+        count = rw at count;
+        words = rw (a, t) at;
+        unchanged = rw (at, ← count) (begins .1);
+        work = work;
+      }
+
+  loop-left : (k : ℕ) → Left m l o w o′ w′ (Looped k) → LoopLeft m l o w o′ w′ k
+  unfolding Left
+  loop-left k (passes, (loop, shown, count, begins), work) =
+      record { passes = passes; loop = loop; shown = shown; count = count; begins = begins; work = work }
+
+-- questions 1 to 12 of a report call
+abbrev Asks : Ceilings → (l o w : List ℕ) → Answer (ℕ × ℕ)
+Asks m l o w = asked m (λ n t. reportNeed n) l (length o) (length w)
+
+-- an answer is not both given and refused
+not-both : {A : Type 0} (x : Answer A) (a : A) (q p : ℕ) → x ≡ given a → x ≡ refused q p → ⊥
+not-both x a q p e f = let none : _≡_ {A = ℕ} 0 1 = cc in omega arith
+
+-- a loop is a way from its first episode to itself
+loop-cyclic : {g : Graph} {c : List ℕ} → Acyclic g → Loop g c → ⊥
+loop-cyclic acyclic o = acyclic (o .first) (loop-to-way o)
+
+module _ (m : Ceilings) (l o w o′ w′ : List ℕ) where
+  -- a call that gives a count has left a report
+  pub given-left : (r : Outcome) (c : ℕ) → Left m l o w o′ w′ r → outcomeAnswer r ≡ given c → ReportLeft m l o w o′ w′ c
+  given-left (Report d) c left e =
+      let same : d ≡ c = cc in
+      subst (λ (x : ℕ). ReportLeft m l o w o′ w′ x) same (report-left m l o w o′ w′ d left)
+  given-left (Looped d) c left e = absurd (not-both (refused 13 d) c 13 d e refl)
+  given-left (Refused q p) c left e = absurd (not-both (refused q p) c q p e refl)
+
+  -- a call with refusal 13 has left a loop
+  pub refused-left : (r : Outcome) (k : ℕ) → Left m l o w o′ w′ r → outcomeAnswer r ≡ refused 13 k → LoopLeft m l o w o′ w′ k
+  unfolding Left
+  refused-left (Report d) k left e = absurd (not-both (given d) d 13 k refl e)
+  refused-left (Looped d) k left e =
+      let same : d ≡ k = cc in
+      subst (λ (x : ℕ). LoopLeft m l o w o′ w′ x) same (loop-left m l o w o′ w′ d left)
+  refused-left (Refused q p) k left e =
+      let most : q ≤ 12 = asked-most m (λ n t. reportNeed n) l (length o) (length w) q p (left .0) in
+      let same : q ≡ 13 = cc in
+      absurd (omega arith)
+
+  -- an acyclic graph's call whose questions are answered yes gives a count
+  pub acyclic-given : (r : Outcome) → Passes m l (length o) (length w) → Acyclic (graphOf l) → Left m l o w o′ w′ r
+      → (c : ℕ) × (outcomeAnswer r ≡ given c)
+  unfolding Left
+  acyclic-given (Report c) passes acyclic left = (c, refl)
+  acyclic-given (Looped k) passes acyclic left = absurd (loop-cyclic acyclic (left .1 .1 .loop))
+  acyclic-given (Refused q p) passes acyclic left = absurd (not-both (Asks m l o w) _ q p passes (left .0))
+
+  -- a call on a graph with a loop, whose questions are answered yes, is refusal 13
+  pub loop-refused : (r : Outcome) (c : List ℕ) → Passes m l (length o) (length w) → Loop (graphOf l) c → Left m l o w o′ w′ r
+      → (k : ℕ) × (outcomeAnswer r ≡ refused 13 k)
+  unfolding Left
+  loop-refused (Report d) c passes loop left = absurd (loop-cyclic (left .1 .2 .acyclic) loop)
+  loop-refused (Looped k) c passes loop left = (k, refl)
+  loop-refused (Refused q p) c passes loop left = absurd (not-both (Asks m l o w) _ q p passes (left .0))
+
+  -- a call refuses with 1 to 12 exactly when the questions do
+  pub refused-asked : (r : Outcome) (q p : ℕ) → q ≤ 12 → Left m l o w o′ w′ r → outcomeAnswer r ≡ refused q p
+      → (Asks m l o w ≡ refused q p) × (o′ ≡ o) × (w′ ≡ w)
+  unfolding Left
+  refused-asked (Report d) q p h left e = absurd (not-both (given d) d q p refl e)
+  refused-asked (Looped d) q p h left e = let same : 13 ≡ q = cc in absurd (omega arith)
+  refused-asked (Refused q′ p′) q p h left e = (left .0 ∙ cc, left .1, left .2)
+
+  pub asked-refused : (r : Outcome) (q p : ℕ) → Left m l o w o′ w′ r → Asks m l o w ≡ refused q p → outcomeAnswer r ≡ refused q p
+  unfolding Left
+  asked-refused (Report d) q p left e = absurd (not-both (Asks m l o w) _ q p (left .0) e)
+  asked-refused (Looped d) q p left e = absurd (not-both (Asks m l o w) _ q p (left .0) e)
+  asked-refused (Refused q′ p′) q p left e =
+      let same : _≡_ {A = Answer (ℕ × ℕ)} (refused q′ p′) (refused q p) = sym (left .0) ∙ e in
+      cc
+
+-- The graph has the episodes and the links that questions 1 to 10 count.
+pub read-graph : (m : Ceilings) (l : List ℕ) (n t : ℕ) → questions m l ≡ given (n, t)
+    → questions m l ≡ given (graphOf l .n, length (graphOf l .links))
+read-graph m l n t e = rw (graph-episodes m l n t e, graph-count m l n t e) e
+
+-- A log that passes questions 1 to 10 passes 11 and 12 too where the buffers are long enough.
+pub read-passes : (m : Ceilings) (l : List ℕ) → questions m l ≡ given (graphOf l .n, length (graphOf l .links)) → (out work : ℕ)
+    → LentEnough l out work → Passes m l out work
+read-passes m l e out work (enough, room) =
+    asked-passes m (λ n t. reportNeed n) l out work (graphOf l .n) (length (graphOf l .links)) e enough room
+
+-- The graph of an accepted log: its links join episodes, and it is acyclic.
+module _ (m : Ceilings) (l : List ℕ) (accepted : Accepted m l) where
+  pub accepted-ends : EndsBelow (graphOf l)
+  accepted-ends = links-below m l (graphOf l .n) (length (graphOf l .links)) (accepted .read)
+
+  pub accepted-acyclic : Acyclic (graphOf l)
+  accepted-acyclic = acyclic-no-loop (graphOf l) accepted-ends .1 (accepted .no-loop)
+
+  -- buffers that are long enough are all that it waits for
+  pub accepted-passes : (out work : ℕ) → LentEnough l out work → Passes m l out work
+  accepted-passes = read-passes m l (accepted .read)
+
+-- questions that are answered yes found the buffers long enough
+pub passes-enough : (m : Ceilings) (l : List ℕ) (out work : ℕ) → Passes m l out work → LentEnough l out work
+passes-enough m l out work e =
+    let h = asked-given m (λ n t. reportNeed n) l out work (graphOf l .n) (length (graphOf l .links)) e in
+    (h .1, h .2)
+
+-- the width of an acyclic graph, and a largest apart set of that size
+pub width-and-apart : (g : Graph) → EndsBelow g → Acyclic g
+    → (k : ℕ) × Width g k × ((j : ℕ) → Width g j → j ≡ k) × ((s : List ℕ) × Apart g s × Largest g s × (length s ≡ k))
+width-and-apart g ends acyclic =
+    let (ts, s, cover, apart, same) = equal-pair g ends acyclic in
+    let both = duality g ends acyclic ts s cover apart .0 same in
+    let width : Width g (length ts) = (ts, cover, both .0, refl) in
+    (length ts, width, λ j other. width-unique j (length ts) other width, (s, apart, both .1, sym same))
+
+module _ (m : Ceilings) (l o w o′ w′ : List ℕ) (c : ℕ) (d : ReportLeft m l o w o′ w′ c) where
+  -- a log that got a report is accepted
+  pub report-accepted : Accepted m l
+  report-accepted =
+      record {
+        read = asked-given m (λ n t. reportNeed n) l (length o) (length w) (graphOf l .n) (length (graphOf l .links)) (d .passes) .0;
+        no-loop = λ k loop. loop-cyclic (d .reported .acyclic) loop;
+      }
+
+  -- the width is the number of its threads
+  pub threads-width : Width (graphOf l) (length (threadsOf (take c o′)))
+  threads-width = (threadsOf (take c o′), d .reported .cover, d .reported .smallest, refl)
+
+  -- word 0 is of kind 4 and its number is the width
+  pub report-width : (kind (getD (take c o′) 0 0) ≡ 4) × Width (graphOf l) (number (getD (take c o′) 0 0))
+  report-width =
+      let few : Small (graphOf l .n) = number-lt (getD l 0 0) in
+      let small : Small (length (apartOf (take c o′))) = omega (arith, apart-few few (d .reported)) in
+      let first : getD (take c o′) 0 0 ≡ word 4 (length (apartOf (take c o′))) =
+      ap (λ (ws : List ℕ). getD ws 0 0) (d .words) ∙ report-head (apartOf (take c o′)) (threadsOf (take c o′)) in
+      let size : number (getD (take c o′) 0 0) ≡ length (apartOf (take c o′)) = ap number first ∙ number-word 4 _ small in
+      (ap kind first ∙ kind-word 4 _ small, subst (Width (graphOf l)) (d .reported .paired .same ∙ sym size) threads-width)

@@ -1,0 +1,31 @@
+use native.Mathlib.Omega.{arith}
+use Rattle.report.proofs.Needs.{square-le}
+use borrow.Author.Needs.{needs}
+use Rattle.report.proofs.report_need.Statement.{statement}
+use Rattle.report.proofs.report_need.Tie as tie
+
+mul-result : tie.Need-mul-result
+mul-result c = search needs
+
+add-result : tie.Need-add-result
+add-result c = search needs
+
+add-result-2 : tie.Need-add-result-2
+add-result-2 c = search needs
+
+add-result-3 : tie.Need-add-result-3
+add-result-3 c = search needs
+
+mul-result-2 : tie.Need-mul-result-2
+mul-result-2 c = omega (arith, square-le (c .args .n) (c .pre))
+
+add-result-4 : tie.Need-add-result-4
+add-result-4 c = omega (arith, square-le (c .args .n) (c .pre))
+
+returns : tie.Need-returns
+returns c = search needs
+
+pub report-need-spec : {M : Type 1} → statement M
+report-need-spec =
+    tie.close
+    (tie.spec mul-result add-result add-result-2 add-result-3 mul-result-2 add-result-4 returns)

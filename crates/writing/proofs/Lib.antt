@@ -1,0 +1,11 @@
+-- Laws of the layout, and how each function writes its words.
+pub mod Layouts
+pub mod Buffers
+pub mod Tests
+pub mod Apart
+pub mod Starts
+pub mod Hops
+pub mod Filling
+pub mod Bundling
+pub mod Reporting
+pub mod Walks

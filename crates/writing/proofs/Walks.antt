@@ -1,0 +1,107 @@
+-- A loop in the buffer, episode by episode.
+use mathlib.Core.Path.{_≡_, refl, sym, _∙_, subst}
+use mathlib.Core.Logic.{_≢_}
+use mathlib.Core.List.{List, [], _∷_, _++_, map}
+use Prim.Native.Nat.{ℕ, _+_, _-_, _≤_, _<_}
+use native.Mathlib.Omega.{arith}
+use lib.ListN.{length, getD, set, length-append, length-map, length-set}
+use Rattle.paths.specs.Graph.{Graph, Link}
+use Rattle.log.specs.Words.{word}
+use Rattle.bits.specs.Work.{nextAt}
+use Rattle.chains.specs.Items.{Shrunk}
+use Rattle.chains.specs.Cycles.{Selves, Walking}
+use Rattle.chains.specs.State.{tables}
+use Rattle.chains.proofs.Cycle.{shrunk-next, walk-start, walk-on, walk-short, walk-end}
+use Rattle.writing.specs.Layout.{BeginsWith, loopWords}
+use Rattle.writing.specs.Writing.{Looping, LoopWritten}
+use Rattle.writing.proofs.Buffers.{begins-second, begins-over, begins-first, begins-word}
+
+-- the first word is left, and `count` episodes of the loop are written behind it; `x` comes next
+pub record Written (w o o′ : List ℕ) (n v count x : ℕ) : Type 0 where
+  pub below : x < n
+  pub some : 1 ≤ count
+  pub few : count ≤ n
+  pub long : n + 1 ≤ length o′
+  pub same-length : length o′ ≡ length o
+  pub first : ℕ
+  pub loop : List ℕ
+  pub size : count ≡ length loop
+  pub words : BeginsWith (first ∷ map (word 7) loop) o o′
+  pub walk : (g : Graph) → Looping g n v w → Walking g (tables w) v loop x
+
+module _ (w : List ℕ) (n v : ℕ) where
+  selves-of : (g : Graph) (l : Looping g n v w) → Selves (g .n) (l .selves) v
+  selves-of g l = subst (λ (m : ℕ). Selves m (l .selves) v) (sym (l .count)) (l .selves-are)
+
+  shrunk-of : (g : Graph) (l : Looping g n v w) → Shrunk (g .n) (Link g) (l .selves) (tables w)
+  shrunk-of g l = subst (λ (m : ℕ). Shrunk m (Link g) (l .selves) (tables w)) (sym (l .count)) (l .shrunk)
+
+  module _ (looping : (g : Graph) × Looping g n v w) where
+    -- each episode has one behind it
+    pub loop-next : (x : ℕ) → x < n → (0 < getD w (nextAt + x) 0) × (getD w (nextAt + x) 0 ≤ n)
+    loop-next x l = (
+      shrunk-next (looping .1 .selves-are) (looping .1 .shrunk) x l,
+      looping .1 .shrunk .matching .next-le x l,
+    )
+
+    pub walk-first : (o : List ℕ) → n + 1 ≤ length o
+        → Written w (set o 1 (word 7 v)) (set o 1 (word 7 v)) n v 1 (getD w (nextAt + v) 0 - 1)
+    walk-first o h =
+        let l = looping .1 .selves-are .below in
+        let p = loop-next v l in
+        record {
+          below = omega arith;
+          some = omega arith;
+          few = omega arith;
+          long = let e = length-set o 1 (word 7 v) in omega arith;
+          same-length = refl;
+          first = getD o 0 0;
+          loop = v ∷ [];
+          size = refl;
+          words = begins-second (word 7 v) o (omega arith);
+          walk = λ g k. walk-start (selves-of g k) (shrunk-of g k) (omega arith);
+        }
+
+    module _ (o o′ : List ℕ) (count x : ℕ) (s : Written w o o′ n v count x) where
+      pub walk-room : x ≢ v → count < n
+      walk-room ne =
+          let h = walk-short (s .walk (looping .0) (looping .1)) ne in
+          let e = looping .1 .count in
+          let z = s .size in
+          omega arith
+
+      pub walk-more : x ≢ v → Written w o (set o′ (count + 1) (word 7 x)) n v (count + 1) (getD w (nextAt + x) 0 - 1)
+      walk-more ne =
+          let z = s .size in
+          let f = s .long in
+          let d = s .same-length in
+          let e = length-set o′ (count + 1) (word 7 x) in
+          let r = walk-room ne in
+          let p = loop-next x (s .below) in
+          record {
+            below = omega arith;
+            some = omega arith;
+            few = omega arith;
+            long = omega arith;
+            same-length = omega arith;
+            first = s .first;
+            loop = s .loop ++ x ∷ [];
+            size = sym (length-append (s .loop) (x ∷ []) ∙ omega arith);
+            words = begins-word 7 (s .first) x (count + 1) (s .loop) o o′ (s .words) (omega arith) (omega arith);
+            walk = λ g k. walk-on (selves-of g k) (shrunk-of g k) (s .walk g k) ne (omega arith);
+          }
+
+  pub walk-done : (o o′ : List ℕ) (count x y : ℕ) → Written w (set o 1 y) o′ n v count x → x ≡ v
+      → LoopWritten w o (set o′ 0 (word 8 count)) n v count
+  unfolding loopWords
+  walk-done o o′ count x y s e =
+      record {
+        loop = s .loop;
+        size = s .size;
+        words =
+            begins-over (word 8 (length (s .loop)) ∷ map (word 7) (s .loop)) o (set o′ 0 (word 8 count)) 1 y
+            (let i = s .size in let j = s .some in let l = length-map (s .loop) (word 7) in omega arith)
+            (subst (λ (k : ℕ). BeginsWith (word 8 k ∷ map (word 7) (s .loop)) (set o 1 y) (set o′ 0 (word 8 count))) (s .size)
+            (begins-first (s .first) (word 8 count) (map (word 7) (s .loop)) (set o 1 y) o′ (s .words)));
+        of = λ g k. walk-end (subst (λ (u : ℕ). Walking g (tables w) v (s .loop) u) e (s .walk g k));
+      }

@@ -1,0 +1,156 @@
+-- `writing::write_loop` meets its contract. The invariant: the loop's first episodes stand behind the first word. The measure is what is
+-- left of the episodes, since none is written twice.
+-- Assumes nothing.
+use mathlib.Core.Path.{_∙_}
+use Prim.Native.Nat.{_+_, _-_}
+use native.Mathlib.Omega.{arith}
+use lib.ListN.{length-set}
+use Rattle.writing.proofs.Walks.{Written, loop-next, walk-first, walk-room, walk-more, walk-done}
+use Rattle.writing.proofs.write_loop.Statement.{statement}
+use Rattle.writing.proofs.write_loop.Tie as tie
+
+abbrev Inv-loop : tie.InvT-loop
+Inv-loop w n v out₀ count₀ x₀ out count x = Written w out₀ out n v count x
+
+abbrev μ-loop : tie.MeasureT-loop
+μ-loop w n v out₀ count₀ x₀ out count x = n - count
+
+cast-out : tie.Need-cast-out Inv-loop μ-loop
+cast-out c = omega arith
+
+add-out : tie.Need-add-out Inv-loop μ-loop
+add-out c = omega arith
+
+slice-write-out : tie.Need-slice-write-out Inv-loop μ-loop
+slice-write-out c = omega arith
+
+add-x : tie.Need-add-x Inv-loop μ-loop
+add-x c = omega arith
+
+mul-x : tie.Need-mul-x Inv-loop μ-loop
+mul-x c = omega arith
+
+shared-slice-read-x : tie.Need-shared-slice-read-x Inv-loop μ-loop
+shared-slice-read-x c = omega arith
+
+cast-x : tie.Need-cast-x Inv-loop μ-loop
+cast-x c = let h = c .shared-slice-known .given (4096 + c .before .args .v) in omega arith
+
+sub-x : tie.Need-sub-x Inv-loop μ-loop
+sub-x c =
+    let a = c .before .args in
+    let looping = c .before .pre .0 in
+    loop-next (a .w .now) (a .n) (a .v) looping (a .v) (looping .1 .selves-are .below) .0
+
+loop-holds : tie.Need-loop-holds Inv-loop μ-loop
+loop-holds c =
+    let a = c .before .args in
+    walk-first (a .w .now) (a .n) (a .v) (c .before .pre .0) (a .out .now) (c .before .pre .1)
+
+add-count : tie.Need-add-count Inv-loop μ-loop
+add-count c = omega arith
+
+cast-out-2 : tie.Need-cast-out-2 Inv-loop μ-loop
+cast-out-2 c = omega arith
+
+add-out-2 : tie.Need-add-out-2 Inv-loop μ-loop
+add-out-2 c = omega arith
+
+mul-out : tie.Need-mul-out Inv-loop μ-loop
+mul-out c = omega arith
+
+slice-write-out-2 : tie.Need-slice-write-out-2 Inv-loop μ-loop
+slice-write-out-2 c =
+    let b = c .before .before .before in
+    let a = b .args in
+    let at = c .before .loop in
+    let h = walk-room (a .w .now) (a .n) (a .v) (b .pre .0) _ (at .out) (at .count) (at .x) (at .inv) (λ e. omega arith) in
+    omega arith
+
+add-x-2 : tie.Need-add-x-2 Inv-loop μ-loop
+add-x-2 c = omega arith
+
+mul-x-2 : tie.Need-mul-x-2 Inv-loop μ-loop
+mul-x-2 c = omega arith
+
+shared-slice-read-x-2 : tie.Need-shared-slice-read-x-2 Inv-loop μ-loop
+shared-slice-read-x-2 c = omega arith
+
+cast-x-2 : tie.Need-cast-x-2 Inv-loop μ-loop
+cast-x-2 c = let h = c .shared-slice-known2 .given (4096 + c .before .before .loop .x) in omega arith
+
+sub-x-2 : tie.Need-sub-x-2 Inv-loop μ-loop
+sub-x-2 c =
+    let b = c .before .before .before .before in
+    let a = b .args in
+    let at = c .before .before .loop in
+    loop-next (a .w .now) (a .n) (a .v) (b .pre .0) (at .x) (at .inv .below) .0
+
+loop-less : tie.Need-loop-less Inv-loop μ-loop
+loop-less c =
+    let b = c .before .before .before .before in
+    let a = b .args in
+    let at = c .before .before .loop in
+    let h = walk-room (a .w .now) (a .n) (a .v) (b .pre .0) _ (at .out) (at .count) (at .x) (at .inv) (λ e. omega arith) in
+    omega arith
+
+loop-again : tie.Need-loop-again Inv-loop μ-loop
+loop-again c =
+    let b = c .before .before .before .before in
+    let a = b .args in
+    let at = c .before .before .loop in
+    walk-more (a .w .now) (a .n) (a .v) (b .pre .0) _ (at .out) (at .count) (at .x) (at .inv) (λ e. omega arith)
+
+cast-out-3 : tie.Need-cast-out-3 Inv-loop μ-loop
+cast-out-3 c = omega arith
+
+add-out-3 : tie.Need-add-out-3 Inv-loop μ-loop
+add-out-3 c = omega arith
+
+slice-write-out-3 : tie.Need-slice-write-out-3 Inv-loop μ-loop
+slice-write-out-3 c = omega arith
+
+same-length : tie.Need-same-length Inv-loop μ-loop
+same-length c =
+    let a = c .before .before .before .args in
+    length-set (c .before .loop .out) 0 (2147483648 + c .before .loop .count) ∙ c .before .loop .inv .same-length
+    ∙ length-set (a .out .now) 1 (1879048192 + a .v)
+
+returns : tie.Need-returns Inv-loop μ-loop
+returns c =
+    let a = c .before .before .before .args in
+    let at = c .before .loop in
+    walk-done (a .w .now) (a .n) (a .v) (a .out .now) (at .out) (at .count) (at .x) (1879048192 + a .v) (at .inv) (omega arith)
+
+pub write-loop-spec : {M : Type 1} → statement M
+write-loop-spec =
+    tie.close
+    (tie.spec
+    Inv-loop
+    μ-loop
+    cast-out
+    add-out
+    slice-write-out
+    add-x
+    mul-x
+    shared-slice-read-x
+    cast-x
+    sub-x
+    loop-holds
+    add-count
+    cast-out-2
+    add-out-2
+    mul-out
+    slice-write-out-2
+    add-x-2
+    mul-x-2
+    shared-slice-read-x-2
+    cast-x-2
+    sub-x-2
+    loop-less
+    loop-again
+    cast-out-3
+    add-out-3
+    slice-write-out-3
+    same-length
+    returns)

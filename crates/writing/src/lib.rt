@@ -1,0 +1,168 @@
+// Writes the words of a report or of a loop, from the chains in the work words.
+ghost use mathlib.Core.Path.{_≡_};
+ghost use mathlib.Core.List.{List};
+ghost use Prim.Native.Nat.{ℕ, _+_, _*_, _-_, _<_, _≤_};
+ghost use lib.ListN.{length};
+ghost use Rattle.paths.specs.Graph.{Graph, Thread};
+ghost use Rattle.bits.specs.Bits.{bit};
+ghost use Rattle.bits.specs.Work.{waysAt, usedWords};
+ghost use Rattle.chains.specs.Items.{Matching, memberTest, members};
+ghost use Rattle.chains.specs.State.{tables};
+ghost use Rattle.writing.specs.Layout.{reportNeed};
+ghost use Rattle.writing.specs.Writing.{Solved, ApartWritten, StartOf, HopTo, ThreadWritten, ThreadsWritten, ReportWritten, Looping, LoopWritten};
+use bits::LINKS;
+use bits::NEXT;
+use bits::NONE;
+use bits::PREV;
+use bits::SEEN;
+use bits::WAYS;
+
+// The words' kinds.
+const WIDTH: u32 = 0x4000_0000;
+
+const APART: u32 = 0x5000_0000;
+
+const THREAD: u32 = 0x6000_0000;
+
+const STEP: u32 = 0x7000_0000;
+
+const LOOP: u32 = 0x8000_0000;
+
+const END: u32 = 0xF000_0000;
+
+// Whether `v` is in the apart set: it ends its chain or the item behind it is seen, and it is not seen itself.
+fn is_member(w: &[u32], n: usize, v: usize) -> bool
+    requires { ⌜ (usedWords ≤ length (now w)) × (n < 256) × (v < n) × Matching n (tables (now w)) ⌝ }
+    ensures { λ r. ⌜ r ≡ memberTest (tables (now (w .entry))) v ⌝ }
+{
+    if bits::bit_at(w, SEEN, v) == 1 {
+        return false;
+    }
+    let next = w[NEXT + v] as usize;
+    if next == 0 {
+        return true;
+    }
+    bits::bit_at(w, SEEN, next - 1) == 1
+}
+
+// Writes kind 4 and the apart set, and gives its size.
+fn write_apart(w: &[u32], n: usize, out: &mut [u32]) -> usize
+    requires { ⌜ (usedWords ≤ length (now w)) × (n < 256) × Matching n (tables (now w)) × (n + 1 ≤ length (now out)) ⌝ }
+    ensures { λ r. ⌜ ApartWritten (now (w .entry)) (now (out .entry)) (now (out .exit)) n r ⌝ }
+{
+    let mut k = 0;
+    let mut v = 0;
+    while v < n {
+        if is_member(w, n, v) {
+            k += 1;
+            out[k] = APART + v as u32;
+        }
+        v += 1;
+    }
+    out[0] = WIDTH + k as u32;
+    k
+}
+
+// The first episode of the chain of `v`.
+fn chain_start(w: &[u32], n: usize, v: usize) -> usize
+    requires { ⌜ ((g : Graph) × Solved g n (now w)) × (v < n) ⌝ }
+    ensures { λ r. ⌜ StartOf (now (w .entry)) n v r ⌝ }
+{
+    let mut x = v;
+    let mut before = w[PREV + x] as usize;
+    while before != 0 {
+        x = before - 1;
+        before = w[PREV + x] as usize;
+    }
+    x
+}
+
+// The first episode that `c` has a link to and that is `b` or has a way to `b`.
+fn hop(w: &[u32], n: usize, c: usize, b: usize) -> usize
+    requires { ⌜ ((g : Graph) × Solved g n (now w)) × (c < n) × (b < n) × (bit (now w) (waysAt + 8 * c) b ≡ 1) ⌝ }
+    ensures { λ r. ⌜ HopTo (now (w .entry)) c b r ⌝ }
+{
+    let row = LINKS + 8 * c;
+    let mut x = bits::next_new(w, row, NONE, 0);
+    while x < 256 {
+        if x == b {
+            return x;
+        }
+        if bits::bit_at(w, WAYS + 8 * x, b) == 1 {
+            return x;
+        }
+        x = bits::next_new(w, row, NONE, x + 1);
+    }
+    b
+}
+
+// Writes a thread that holds the chain of `v`, and gives the count of its words. Each step of the chain, which is a way, is filled with
+// the links of a path.
+fn write_thread(w: &[u32], n: usize, v: usize, out: &mut [u32]) -> usize
+    requires { ⌜ ((g : Graph) × Solved g n (now w) × ((th : List ℕ) → Thread g th → length th + 1 ≤ length (now out))) × (v < n) ⌝ }
+    ensures { λ r. ⌜ ThreadWritten (now (w .entry)) (now (out .entry)) (now (out .exit)) n v r ⌝ }
+{
+    let mut at = chain_start(w, n, v);
+    let mut target = at;
+    let mut count = 1;
+    out[1] = STEP + at as u32;
+    loop {
+        if at == target {
+            let next = w[NEXT + at] as usize;
+            if next == 0 {
+                break;
+            }
+            target = next - 1;
+        }
+        at = hop(w, n, at, target);
+        count += 1;
+        out[count] = STEP + at as u32;
+    }
+    out[0] = THREAD + count as u32;
+    count + 1
+}
+
+// Writes a thread for each member of the apart set, and gives the count of their words.
+fn write_threads(w: &[u32], n: usize, out: &mut [u32]) -> usize
+    requires { ⌜ ((g : Graph) × Solved g n (now w)) × (length (members (tables (now w)) n) * (n + 2 - length (members (tables (now w)) n)) ≤ length (now out)) ⌝ }
+    ensures { λ r. ⌜ ThreadsWritten (now (w .entry)) (now (out .entry)) (now (out .exit)) n r ⌝ }
+{
+    let mut at = 0;
+    let mut v = 0;
+    while v < n {
+        if is_member(w, n, v) {
+            let count = write_thread(w, n, v, &mut out[at..]);
+            at += count;
+        }
+        v += 1;
+    }
+    at
+}
+
+// Writes a whole report, and gives the count of its words.
+pub fn write_report(w: &[u32], n: usize, out: &mut [u32]) -> usize
+    requires { ⌜ ((g : Graph) × Solved g n (now w)) × (reportNeed n ≤ length (now out)) ⌝ }
+    ensures { λ r. ⌜ ReportWritten (now (w .entry)) (now (out .entry)) (now (out .exit)) n r ⌝ }
+{
+    let start = write_apart(w, n, out) + 1;
+    let end = start + write_threads(w, n, &mut out[start..]);
+    out[end] = END + end as u32;
+    end + 1
+}
+
+// Writes the loop from `v` on, and gives its length.
+pub fn write_loop(w: &[u32], n: usize, v: usize, out: &mut [u32]) -> usize
+    requires { ⌜ ((g : Graph) × Looping g n v (now w)) × (n + 1 ≤ length (now out)) ⌝ }
+    ensures { λ r. ⌜ LoopWritten (now (w .entry)) (now (out .entry)) (now (out .exit)) n v r ⌝ }
+{
+    let mut count = 1;
+    out[1] = STEP + v as u32;
+    let mut x = w[NEXT + v] as usize - 1;
+    while x != v {
+        count += 1;
+        out[count] = STEP + x as u32;
+        x = w[NEXT + x] as usize - 1;
+    }
+    out[0] = LOOP + count as u32;
+    count
+}
