@@ -1,4 +1,5 @@
 // Logs of full size: 200 episodes, and 4,096 to words or one more.
+use crate::show::outcome;
 use crate::show::reading;
 use crate::words::END;
 use crate::words::FROM;
@@ -12,10 +13,11 @@ fn fill(words: &mut [u32], odd: u32, even: u32) {
     }
 }
 
-// The trial of the first `n` words.
+// The trials of the first `n` words.
 fn first(name: &[u8], words: &[u32], n: usize) {
     if n <= words.len() {
         reading(name, &words[0..n]);
+        outcome(name, &words[0..n]);
     }
 }
 
@@ -29,7 +31,7 @@ pub fn one_group() {
     first(b"4,096 to words", &words, 4099);
     words[4098] = TO + 1;
     words[4099] = END + 4097;
-    reading(b"4,097 to words", &words);
+    first(b"4,097 to words", &words, 4100);
     // Its number is not below n either: 7 is asked first.
     words[4098] = TO + 200;
     reading(b"4,097 to words, the last 200 of 200", &words);
@@ -44,5 +46,37 @@ pub fn pairs() {
     first(b"4,096 groups", &words, 8194);
     words[8193] = FROM + 0;
     words[8195] = END + 4097;
-    reading(b"4,097 groups", &words);
+    first(b"4,097 groups", &words, 8196);
+}
+
+// The links 0-1, 1-2 and so on, one group for each.
+fn fill_chain(words: &mut [u32]) {
+    for i in 0..words.len() {
+        let episode = (i / 2 % 1000) as u32;
+        words[i] = if i % 2 == 1 {
+            FROM + episode
+        } else {
+            TO + episode
+        };
+    }
+}
+
+// Word 2k + 1 is the from word of episode k, and word 2k the to word of episode k: the links 0-1 to 198-199, and then 199-0.
+pub fn chains() {
+    let mut words = [0u32; 402];
+    fill_chain(&mut words);
+    words[0] = HEAD + 200;
+    words[399] = END + 199;
+    // Width 1, one member, one thread of 200.
+    first(b"a chain of 200", &words, 400);
+    words[399] = FROM + 199;
+    words[400] = TO + 0;
+    words[401] = END + 200;
+    first(b"a loop of 200", &words, 402);
+}
+
+// No links: 200 threads of one episode.
+pub fn single_episodes() {
+    first(b"200 episodes", &[HEAD + 200, END + 0], 2);
+    first(b"201 episodes", &[HEAD + 201, END + 0], 2);
 }
