@@ -8,7 +8,7 @@ use native.Mathlib.Omega.{arith}
 use lib.ListN.{length, getD, set, take, drop, replicate, length-set, length-append, length-drop, length-replicate, getD-replicate, List·getD-append}
 use lib.Seq.{length-take-le, getD-append-add, getD-set-other, getD-take, getD-drop}
 use Rattle.bits.specs.Bits.{bit, BitSet}
-use Rattle.bits.specs.Work.{Matrix, Outside}
+use Rattle.bits.specs.Work.{matrixWords, Matrix, Outside}
 use Rattle.bits.proofs.Rows.{bit-word, bits-words}
 
 pub outside-none : (lo hi : ℕ) (w : List ℕ) → Outside lo hi w w
@@ -62,7 +62,7 @@ set-other {w} {w′} base a b hb s x y hy ne = go (ℕ-discrete x a)
     go (no d) = bit-word w w′ (base + 8 * x) y (s .words (base + 8 * x + y / 32) (λ f. d (omega arith)))
 
 -- a matrix before the words that may have changed
-pub matrix-before : {base lo hi : ℕ} {w w′ : List ℕ} {R : ℕ → ℕ → Type 0} → base + 2048 ≤ lo → Outside lo hi w w′ → Matrix base w R
+pub matrix-before : {base lo hi : ℕ} {w w′ : List ℕ} {R : ℕ → ℕ → Type 0} → base + matrixWords ≤ lo → Outside lo hi w w′ → Matrix base w R
     → Matrix base w′ R
 matrix-before {base} {w = w} {w′ = w′} h p m =
     record {

@@ -5,6 +5,10 @@ use Prim.Native.Nat.{ℕ, _+_, _*_, _≤_, _<_}
 use lib.ListN.{length, getD}
 use Rattle.bits.specs.Bits.{bit}
 
+-- the words of a matrix: 256 rows of 8
+abbrev pub matrixWords : ℕ
+matrixWords = 2048
+
 -- the links, a row of bits for each episode
 abbrev pub linksAt : ℕ
 linksAt = 0

@@ -3,16 +3,16 @@ use mathlib.Core.Path.{_≡_, sym, _∙_}
 use mathlib.Core.List.{List}
 use Prim.Native.Nat.{ℕ, _+_, _*_, _≤_, _<_}
 use native.Mathlib.Omega.{arith}
-use Rattle.bits.specs.Work.{nextAt, prevAt, viaAt, queueAt, seenAt, Outside}
+use Rattle.bits.specs.Work.{nextAt, prevAt, viaAt, queueAt, seenAt, Outside, matrixWords}
 use Rattle.bits.proofs.Frames.{bit-before, bit-behind}
 use Rattle.chains.specs.State.{tables, Pairs}
 
 module _ {lo hi : ℕ} {w w′ : List ℕ} (o : Outside lo hi w w′) where
   -- a matrix before what is written, forth and back
-  pub pairs-kept : (base a b : ℕ) → base + 2048 ≤ lo → a < 256 → b < 256 → Pairs base w a b → Pairs base w′ a b
+  pub pairs-kept : (base a b : ℕ) → base + matrixWords ≤ lo → a < 256 → b < 256 → Pairs base w a b → Pairs base w′ a b
   pairs-kept base a b h k l e = bit-before o (base + 8 * a) b (omega arith) l ∙ e
 
-  pub pairs-were : (base a b : ℕ) → base + 2048 ≤ lo → a < 256 → b < 256 → Pairs base w′ a b → Pairs base w a b
+  pub pairs-were : (base a b : ℕ) → base + matrixWords ≤ lo → a < 256 → b < 256 → Pairs base w′ a b → Pairs base w a b
   pairs-were base a b h k l e = sym (bit-before o (base + 8 * a) b (omega arith) l) ∙ e
 
   -- the tables before what is written

@@ -7,7 +7,7 @@ use Prim.Native.Nat.{ℕ, _+_, _-_, _≤_, _<_}
 use native.Mathlib.Omega.{arith}
 use lib.ListN.{getD}
 use Rattle.bits.specs.Bits.{sum}
-use Rattle.bits.specs.Work.{nextAt, prevAt, viaAt, Outside}
+use Rattle.bits.specs.Work.{nextAt, prevAt, viaAt, Outside, noneAt}
 use Rattle.chains.specs.Items.{Matching}
 use Rattle.chains.specs.State.{tables, Pairs, Sized, ShrunkIn, JoinedIn}
 use Rattle.chains.proofs.Counts.{shrunk-fewer}
@@ -18,7 +18,7 @@ use Rattle.chains.proofs.Showing.{matching-kept, same-links, sized-kept
 -- the chains are of pairs of the matrix; the words were `w₀`
 pub record Joining (w₀ w : List ℕ) (base m : ℕ) : Type 0 where
   pub sized : Sized w base m
-  pub outside : Outside nextAt 5128 w₀ w
+  pub outside : Outside nextAt noneAt w₀ w
   pub matching : Matching m (tables w)
   pub pairs : (a b : ℕ) → a < m → b < m → tables w .next a ≡ b + 1 → Pairs base w₀ a b
 
@@ -30,7 +30,7 @@ pub joining-start : (w : List ℕ) (base m : ℕ) → Sized w base m → ((i : �
 joining-start w base m z none =
     record {
       sized = z;
-      outside = outside-none nextAt 5128 w;
+      outside = outside-none nextAt noneAt w;
       matching =
           record {
             next-le = λ a al. let e = next-none a al in omega arith;

@@ -3,7 +3,7 @@ use mathlib.Core.Path.{_≡_}
 use mathlib.Core.List.{List}
 use Prim.Native.Nat.{ℕ, _+_, _≤_, _<_}
 use native.Mathlib.Omega.{arith}
-use Rattle.bits.specs.Work.{viaAt, seenAt, Outside}
+use Rattle.bits.specs.Work.{viaAt, seenAt, Outside, noneAt}
 use Rattle.bits.proofs.Rows.{bit-lt}
 use Rattle.chains.specs.Items.{Matching, Searching}
 use Rattle.chains.specs.State.{tables, Pairs, Sized, PreparedIn, ShownIn, SearchedIn}
@@ -15,20 +15,20 @@ use Rattle.chains.proofs.Showing.{matching-kept, sized-kept, forth, bac
 -- the items before `head` have shown all; the words were `w₀`
 pub record Looking (w₀ w : List ℕ) (base m head tail : ℕ) : Type 0 where
   pub sized : Sized w base m
-  pub outside : Outside viaAt 5128 w₀ w
+  pub outside : Outside viaAt noneAt w₀ w
   pub matching : Matching m (tables w)
   pub searching : Searching m (Pairs base w) (tables w) head 0 tail
 
 -- `e` was before it was prepared
 module _ (e w₀ : List ℕ) (base m tail₀ : ℕ) (z : Sized e base m) (k : Matching m (tables e)) (p : PreparedIn e w₀ m tail₀) where
-  prepared-outside : Outside viaAt 5128 e w₀
+  prepared-outside : Outside viaAt noneAt e w₀
   prepared-outside = outside-wider (omega arith) (omega arith) (p .outside)
 
   pub looking-start : Looking w₀ w₀ base m 0 tail₀
   looking-start =
       record {
         sized = sized-kept (p .outside .same-length) z;
-        outside = outside-none viaAt 5128 w₀;
+        outside = outside-none viaAt noneAt w₀;
         matching = matching-kept prepared-outside (z .items) k;
         searching = prepared-searching (p .prepared);
       }
@@ -44,7 +44,7 @@ module _ (e w₀ : List ℕ) (base m tail₀ : ℕ) (z : Sized e base m) (k : Ma
         found = λ l. absurd (omega arith);
       }
     where
-      all : Outside viaAt 5128 e w
+      all : Outside viaAt noneAt e w
       all = outside-then prepared-outside (s .outside)
 
       same : head ≡ tail
@@ -69,7 +69,7 @@ module _ (e w₀ : List ℕ) (base m tail₀ : ℕ) (z : Sized e base m) (k : Ma
             );
       }
     where
-      all : Outside viaAt 5128 e w
+      all : Outside viaAt noneAt e w
       all = outside-then prepared-outside (s .outside)
 
 -- on to the next item of the queue

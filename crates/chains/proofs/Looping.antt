@@ -4,7 +4,7 @@ use mathlib.Core.List.{List}
 use Prim.Native.Nat.{ℕ, _≤_, _<_}
 use native.Mathlib.Omega.{arith}
 use lib.ListN.{length}
-use Rattle.bits.specs.Work.{linksAt, nextAt, usedWords, Matrix, Outside}
+use Rattle.bits.specs.Work.{linksAt, nextAt, usedWords, Matrix, Outside, noneAt}
 use Rattle.paths.specs.Graph.{Graph, Link}
 use Rattle.chains.specs.Items.{Matching, Exhausted}
 use Rattle.chains.specs.Cycles.{Selves}
@@ -17,7 +17,7 @@ use Rattle.chains.proofs.Showing.{same-links, forth, back}
 
 -- `e` are the words at first, and `w₁` those with each item but `v` behind itself
 module _ (e w₁ : List ℕ) (m v : ℕ) (long : usedWords ≤ length e) (items : m < 256) (s : SelvesIn e w₁ m v) where
-  selves-outside : Outside nextAt 5128 e w₁
+  selves-outside : Outside nextAt noneAt e w₁
   selves-outside = outside-wider (omega arith) (omega arith) (s .outside)
 
   sized : Sized e linksAt m

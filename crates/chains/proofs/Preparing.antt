@@ -8,7 +8,7 @@ use native.Mathlib.Omega.{arith}
 use lib.ListN.{length, set}
 use lib.Seq.{getD-set-same, getD-set-other}
 use Rattle.bits.specs.Bits.{bit}
-use Rattle.bits.specs.Work.{nextAt, queueAt, seenAt, usedWords, Outside}
+use Rattle.bits.specs.Work.{nextAt, queueAt, seenAt, usedWords, Outside, noneAt}
 use Rattle.bits.proofs.Rows.{bits-zero}
 use Rattle.chains.specs.State.{tables, PreparedIn}
 use Rattle.bits.proofs.Frames.{outside-none, outside-then, outside-wider, outside-more, bit-behind, Cleared}
@@ -99,7 +99,7 @@ module _ (m : ℕ) (w₀ w : List ℕ) (tail a : ℕ) (few : m < 256) (s : Filli
           (p, omega arith, old p (λ i. absurd (omega arith)) ∙ g)
 
   -- every item has been looked at; `w₁` is what the words were at first
-  pub filling-done : (w₁ : List ℕ) → Outside seenAt 5128 w₁ w₀ → ((b : ℕ) → b < 256 → bit w₀ seenAt b ≡ 0) → m ≤ a → PreparedIn w₁ w m tail
+  pub filling-done : (w₁ : List ℕ) → Outside seenAt noneAt w₁ w₀ → ((b : ℕ) → b < 256 → bit w₀ seenAt b ≡ 0) → m ≤ a → PreparedIn w₁ w m tail
   filling-done w₁ o zero h =
       record {
         outside = outside-then (outside-wider (omega arith) (omega arith) o) (outside-wider (omega arith) (omega arith) (s .outside));
@@ -117,5 +117,5 @@ module _ (m : ℕ) (w₀ w : List ℕ) (tail a : ℕ) (few : m < 256) (s : Filli
 -- ---- a part of a list, made zero
 
 -- the row of what is seen, made zero
-pub cleared-unseen : (w w′ : List ℕ) → Cleared seenAt 5128 w w′ → (b : ℕ) → b < 256 → bit w′ seenAt b ≡ 0
+pub cleared-unseen : (w w′ : List ℕ) → Cleared seenAt noneAt w w′ → (b : ℕ) → b < 256 → bit w′ seenAt b ≡ 0
 cleared-unseen w w′ c b h = bits-zero w′ seenAt b (c .zeros (seenAt + b / 32) (omega arith) (omega arith))

@@ -6,7 +6,7 @@ use native.Mathlib.Decide.{decLt}
 use native.Mathlib.Omega.{arith}
 use lib.ListN.{length, getD}
 use Rattle.bits.specs.Bits.{NextNew}
-use Rattle.bits.specs.Work.{nextAt, prevAt, viaAt, queueAt, seenAt, Outside}
+use Rattle.bits.specs.Work.{nextAt, prevAt, viaAt, queueAt, seenAt, Outside, noneAt}
 use Rattle.chains.specs.Items.{Tables, Matching, Searching, Saw, Flipped}
 use Rattle.chains.specs.State.{tables, Pairs, Sized, SawIn, ShownIn}
 use Rattle.bits.proofs.Frames.{outside-none, outside-then}
@@ -62,7 +62,7 @@ shown-to {m} {R} {t} {head} {from} {tail} {b} s gap =
 
 -- ---- the work words before the tables of a search, and the chains, stay as they are
 
-module _ {w w′ : List ℕ} (o : Outside viaAt 5128 w w′) where
+module _ {w w′ : List ℕ} (o : Outside viaAt noneAt w w′) where
   pub same-links : (m : ℕ) → m < 256 → SameLinks m (tables w) (tables w′)
   same-links m h =
       record {
@@ -88,7 +88,7 @@ module _ {w w′ : List ℕ} {base m lo hi : ℕ} (s : Sized w base m) (le : nex
 -- `b` is the first that the item at `head` of the queue has and that was not seen, or not below `m`; the words were `w₀`
 pub record Showing (w₀ w : List ℕ) (base m head row end b : ℕ) : Type 0 where
   pub sized : Sized w base m
-  pub outside : Outside viaAt 5128 w₀ w
+  pub outside : Outside viaAt noneAt w₀ w
   pub matching : Matching m (tables w)
   pub searching : Searching m (Pairs base w₀) (tables w) head b end
   pub inside : head < end
@@ -98,7 +98,7 @@ pub record Showing (w₀ w : List ℕ) (base m head row end b : ℕ) : Type 0 wh
 
 -- the next new bit
 module _ (w₀ w : List ℕ) (base m head row end from r : ℕ) where
-  showing-next : Sized w₀ base m → Outside viaAt 5128 w₀ w → Matching m (tables w) → Searching m (Pairs base w₀) (tables w) head from end
+  showing-next : Sized w₀ base m → Outside viaAt noneAt w₀ w → Matching m (tables w) → Searching m (Pairs base w₀) (tables w) head from end
       → head < end → row ≡ base + 8 * getD w (queueAt + head) 0 → NextNew w row seenAt from r → Showing w₀ w base m head row end r
   showing-next z o k s hd e n =
       record {
@@ -122,7 +122,7 @@ pub showing-start : (w : List ℕ) (base m head tail r : ℕ) → Sized w base m
     → Searching m (Pairs base w) (tables w) head 0 tail → head < tail → NextNew w (base + 8 * getD w (queueAt + head) 0) seenAt 0 r
     → Showing w w base m head (base + 8 * getD w (queueAt + head) 0) tail r
 showing-start w base m head tail r z k s hd n =
-    showing-next w w base m head (base + 8 * getD w (queueAt + head) 0) tail 0 r z (outside-none viaAt 5128 w) k s hd refl n
+    showing-next w w base m head (base + 8 * getD w (queueAt + head) 0) tail 0 r z (outside-none viaAt noneAt w) k s hd refl n
 
 -- `b` is seen; the words are now `w′`
 module _ (w₀ w w′ : List ℕ) (base m head row end b : ℕ) (s : Showing w₀ w base m head row end b) (bl : b < m) (i : SawIn w w′ head b end) where
@@ -132,7 +132,7 @@ module _ (w₀ w w′ : List ℕ) (base m head row end b : ℕ) (s : Showing w�
   prev-is : getD w′ (prevAt + b) 0 ≡ getD w (prevAt + b) 0
   prev-is = saw .prev-same b bl
 
-  outside′ : Outside viaAt 5128 w₀ w′
+  outside′ : Outside viaAt noneAt w₀ w′
   outside′ = outside-then (s .outside) (i .outside)
 
   -- with an item before it

@@ -111,7 +111,7 @@ pub record Flipping (m : ℕ) (R : ℕ → ℕ → Type 0) (t₀ t : Tables) (ta
   pub ends : (a : ℕ) → a < m → t .next a ≡ 0 → t₀ .next a ≡ 0
   pub untouched : (q : ℕ) → q < t₀ .via b → t .next (t₀ .queue q) ≡ t₀ .next (t₀ .queue q)
 
--- the item at place `p` of `t₀`'s queue gets `b` behind it
+-- `b` is put behind `a`
 pub record Flipped (m : ℕ) (t t′ : Tables) (a b : ℕ) : Type 0 where
   pub next-here : t′ .next a ≡ b + 1
   pub next-other : (c : ℕ) → c < m → c ≢ a → t′ .next c ≡ t .next c

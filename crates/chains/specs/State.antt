@@ -6,7 +6,7 @@ use Prim.Native.Nat.{ℕ, _+_, _-_, _*_, _≤_, _<_}
 use lib.ListN.{length, getD}
 use Rattle.paths.specs.Graph.{Graph, EndsBelow, Link, Way}
 use Rattle.bits.specs.Bits.{bit}
-use Rattle.bits.specs.Work.{linksAt, nextAt, prevAt, viaAt, queueAt, seenAt, usedWords, Matrix, Outside}
+use Rattle.bits.specs.Work.{linksAt, nextAt, prevAt, viaAt, queueAt, seenAt, usedWords, Matrix, Outside, noneAt, matrixWords}
 use Rattle.chains.specs.Items.{Tables, Matching, Exhausted, Searching, Prepared, Saw, Trail, Flipping, Flipped, Shrunk}
 use Rattle.chains.specs.Cycles.{Selves}
 
@@ -28,29 +28,29 @@ Pairs base w a b = bit w (base + 8 * a) b ≡ 1
 -- the work words and a matrix among them, for `m` items
 pub record Sized (w : List ℕ) (base m : ℕ) : Type 0 where
   pub long : usedWords ≤ length w
-  pub matrix : base + 2048 ≤ nextAt
+  pub matrix : base + matrixWords ≤ nextAt
   pub items : m < 256
 
 -- the queue and what is seen, before a search
 pub record PreparedIn (w w′ : List ℕ) (m tail : ℕ) : Type 0 where
-  pub outside : Outside queueAt 5128 w w′
+  pub outside : Outside queueAt noneAt w w′
   pub prepared : Prepared m (tables w′) tail
 
 -- `b` becomes seen from the place `head`
 pub record SawIn (w w′ : List ℕ) (head b tail : ℕ) : Type 0 where
-  pub outside : Outside viaAt 5128 w w′
+  pub outside : Outside viaAt noneAt w w′
   pub saw : Saw 256 (tables w) (tables w′) head b tail
 
 -- What the item at `head` of the queue leads to: an item with none before it, or, where `item` is `m`, only to more of the queue.
 pub record ShownIn (w w′ : List ℕ) (base m head item tail : ℕ) : Type 0 where
-  pub outside : Outside viaAt 5128 w w′
+  pub outside : Outside viaAt noneAt w w′
   pub item-le : item ≤ m
   pub done : item ≡ m → Searching m (Pairs base w) (tables w′) (head + 1) 0 tail
   pub found : item < m → Trail m (Pairs base w) (tables w′) tail × Flipping m (Pairs base w) (tables w′) (tables w′) tail item
 
 -- What a search finds: an item with none before it and the way back from it, or, where `item` is `m`, nothing.
 pub record SearchedIn (w w′ : List ℕ) (base m item : ℕ) : Type 0 where
-  pub outside : Outside viaAt 5128 w w′
+  pub outside : Outside viaAt noneAt w w′
   pub item-le : item ≤ m
   pub bits : (b : ℕ) → b < m → bit w′ seenAt b < 2
   pub exhausted : item ≡ m → Exhausted m (Pairs base w) (tables w′)
@@ -65,12 +65,12 @@ pub record FlippedIn (w w′ : List ℕ) (b old : ℕ) : Type 0 where
 
 -- One chain fewer, or the search is exhausted.
 abbrev pub ShrunkIn : List ℕ → List ℕ → ℕ → ℕ → Bool → Type 0
-ShrunkIn w w′ base m true = Outside nextAt 5128 w w′ × Shrunk m (Pairs base w) (tables w) (tables w′)
-ShrunkIn w w′ base m false = Outside viaAt 5128 w w′ × Exhausted m (Pairs base w) (tables w′)
+ShrunkIn w w′ base m true = Outside nextAt noneAt w w′ × Shrunk m (Pairs base w) (tables w) (tables w′)
+ShrunkIn w w′ base m false = Outside viaAt noneAt w w′ × Exhausted m (Pairs base w) (tables w′)
 
 -- As few chains as can be: each item stands behind one that it has in the matrix, and the search is exhausted.
 pub record JoinedIn (w w′ : List ℕ) (base m : ℕ) : Type 0 where
-  pub outside : Outside nextAt 5128 w w′
+  pub outside : Outside nextAt noneAt w w′
   pub matching : Matching m (tables w′)
   pub pairs : (a b : ℕ) → a < m → b < m → tables w′ .next a ≡ b + 1 → Pairs base w a b
   pub exhausted : Exhausted m (Pairs base w) (tables w′)
@@ -82,6 +82,6 @@ pub record SelvesIn (w w′ : List ℕ) (m v : ℕ) : Type 0 where
 
 -- In a graph whose links the matrix holds and in which `v` has a way to itself: the items behind each other from `v` on are a loop.
 pub record LoopedIn (w w′ : List ℕ) (m v : ℕ) : Type 0 where
-  pub outside : Outside nextAt 5128 w w′
+  pub outside : Outside nextAt noneAt w w′
   pub shrunk : (g : Graph) → EndsBelow g → g .n ≡ m → Matrix linksAt w (Link g) → Way g v v
       → (t : Tables) × Selves m t v × Shrunk m (Link g) t (tables w′)

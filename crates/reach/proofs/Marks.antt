@@ -22,7 +22,7 @@ use Rattle.log.specs.Words.{kind, number}
 use Rattle.log.proofs.Links.{linksBefore, nearestFrom}
 use Rattle.log.proofs.Laws.{well-formed, before-head, pass-from, pass-to, links-passed}
 use Rattle.bits.specs.Bits.{bit, BitSet}
-use Rattle.bits.specs.Work.{linksAt, waysAt, Matrix, Outside}
+use Rattle.bits.specs.Work.{linksAt, waysAt, Matrix, Outside, nextAt, matrixWords}
 use Rattle.bits.proofs.Rows.{bit-word, bits-zero}
 use Rattle.reach.specs.Reach.{PassedLog, Marked, WordTaken, LinksMarked}
 use Rattle.bits.proofs.Frames.{outside-none, outside-then, set-other}
@@ -76,7 +76,7 @@ matrix-more {w} {w′} {ls} base a b ha hb m here-bit other =
 
 -- at place `p` both matrices hold the links of the words before it, and `from` is the nearest from word's number
 pub record Marking (l w w′ : List ℕ) (from p : ℕ) : Type 0 where
-  pub outside : Outside 0 4096 w w′
+  pub outside : Outside linksAt nextAt w w′
   pub behind : 0 < p
   pub within : p < length l
   pub links : Matrix linksAt w′ (λ a b. Mem (a, b) (linksBefore l p))
@@ -84,13 +84,13 @@ pub record Marking (l w w′ : List ℕ) (from p : ℕ) : Type 0 where
   pub nearest : 1 < p → (from ≡ nearestFrom l p) × (from < 256)
 
 -- before the first of them no link has been seen, and no bit is set
-pub marking-start : (l w : List ℕ) → PassedLog l → ((i : ℕ) → i < 4096 → getD w i 0 ≡ 0) → Marking l w w 0 1
+pub marking-start : (l w : List ℕ) → PassedLog l → ((i : ℕ) → i < nextAt → getD w i 0 ≡ 0) → Marking l w w 0 1
 marking-start l w (m, n, t, e, few) zeros =
     let f = well-formed m l n t e in
     let long : 2 ≤ length l = f .long in
     let none : linksBefore l 1 ≡ [] = before-head l (omega arith) in
     record {
-      outside = outside-none 0 4096 w;
+      outside = outside-none linksAt nextAt w;
       behind = omega arith;
       within = omega arith;
       links = empty none linksAt (omega arith);
@@ -98,7 +98,7 @@ marking-start l w (m, n, t, e, few) zeros =
       nearest = λ h. absurd (omega arith);
     }
   where
-    empty : linksBefore l 1 ≡ [] → (base : ℕ) → base + 2048 ≤ 4096 → Matrix base w (λ a b. Mem (a, b) (linksBefore l 1))
+    empty : linksBefore l 1 ≡ [] → (base : ℕ) → base + matrixWords ≤ nextAt → Matrix base w (λ a b. Mem (a, b) (linksBefore l 1))
     empty none base h =
         record {
           sound = λ a b ha hb o.

@@ -11,7 +11,7 @@ use Rattle.paths.specs.Graph.{Graph, EndsBelow, Link}
 use Rattle.paths.specs.Closure.{WayBelow}
 use Rattle.paths.proofs.Ways.{below-way, way-below, way-first}
 use Rattle.bits.specs.Bits.{bit, RowJoined}
-use Rattle.bits.specs.Work.{waysAt, Matrix, Outside}
+use Rattle.bits.specs.Work.{waysAt, Matrix, Outside, nextAt}
 use Rattle.bits.proofs.Rows.{bit-lt, bits-words}
 use Rattle.reach.specs.Reach.{RowClosed, RoundClosed, Closed}
 use Rattle.bits.proofs.Frames.{outside-none, outside-then}
@@ -37,7 +37,7 @@ row-joined-closed w w′ a k ha hk o j =
 pub row-left-closed : (w : List ℕ) (a k : ℕ) → (bit w (waysAt + 8 * a) k ≡ 1 → ⊥) → RowClosed w w a k
 row-left-closed w a k z =
     record {
-      outside = outside-none waysAt 4096 w;
+      outside = outside-none waysAt nextAt w;
       here = λ y hy.
           let l : bit w (waysAt + 8 * a) k < 2 = bit-lt w (waysAt + 8 * a) k in
           let none : bit w (waysAt + 8 * a) k ≡ 0 = omega (arith, z) in
@@ -98,14 +98,14 @@ module _ {R : ℕ → ℕ → Type 0} {w w′ : List ℕ} {a k : ℕ} (hk : k < 
 
 -- After the rows below `a` of round `k`.
 pub record InRound (w w′ : List ℕ) (n k a : ℕ) : Type 0 where
-  pub outside : Outside waysAt 4096 w w′
+  pub outside : Outside waysAt nextAt w w′
   pub at-most : a ≤ n
   pub ways : (g : Graph) → Matrix waysAt w (WayBelow g k) → Matrix waysAt w′ (By (WayBelow g k) k a)
 
 pub round-start : (w : List ℕ) (n k : ℕ) → InRound w w n k 0
 round-start w n k =
     record {
-      outside = outside-none waysAt 4096 w;
+      outside = outside-none waysAt nextAt w;
       at-most = omega arith;
       ways = λ g m.
           record {
@@ -142,13 +142,13 @@ round-end w w′ n k a h s =
 
 -- After the rounds below `k`.
 pub record InClosure (w w′ : List ℕ) (n k : ℕ) : Type 0 where
-  pub outside : Outside waysAt 4096 w w′
+  pub outside : Outside waysAt nextAt w w′
   pub at-most : k ≤ n
   pub ways : (g : Graph) → EndsBelow g → g .n ≡ n → Matrix waysAt w (Link g) → Matrix waysAt w′ (WayBelow g k)
 
 pub closure-start : (w : List ℕ) (n : ℕ) → InClosure w w n 0
 unfolding WayBelow
-closure-start w n = record { outside = outside-none waysAt 4096 w; at-most = omega arith; ways = λ g ends e m. m }
+closure-start w n = record { outside = outside-none waysAt nextAt w; at-most = omega arith; ways = λ g ends e m. m }
 
 pub closure-round : (w w′ w″ : List ℕ) (n k : ℕ) → k < n → InClosure w w′ n k → RoundClosed w′ w″ n k → InClosure w w″ n (k + 1)
 closure-round w w′ w″ n k h s r =

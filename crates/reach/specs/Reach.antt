@@ -9,7 +9,7 @@ use Rattle.log.specs.Answer.{given}
 use Rattle.log.specs.Log.{questions, graphOf}
 use Rattle.log.specs.declared.Ceilings.{Ceilings}
 use Rattle.bits.specs.Bits.{bit}
-use Rattle.bits.specs.Work.{linksAt, waysAt, Matrix, Outside}
+use Rattle.bits.specs.Work.{linksAt, waysAt, Matrix, Outside, nextAt}
 
 -- the log passes questions 1 to 10 at some ceilings of at most 256 episodes
 abbrev pub PassedLog : List ℕ → Type 0
@@ -17,7 +17,7 @@ PassedLog l = (m : Ceilings) × (n : ℕ) × (t : ℕ) × (questions m l ≡ giv
 
 -- the link from `a` to `b` is marked in both matrices
 pub record Marked (w w′ : List ℕ) (a b : ℕ) : Type 0 where
-  pub outside : Outside 0 4096 w w′
+  pub outside : Outside linksAt nextAt w w′
   pub links-here : bit w′ (linksAt + 8 * a) b ≡ 1
   pub links-other : (x y : ℕ) → x < 256 → y < 256 → ((x ≡ a) × (y ≡ b) → ⊥) → bit w′ (linksAt + 8 * x) y ≡ bit w (linksAt + 8 * x) y
   pub ways-here : bit w′ (waysAt + 8 * a) b ≡ 1
@@ -30,24 +30,24 @@ pub record WordTaken (x from r : ℕ) (w w′ : List ℕ) : Type 0 where
 
 -- both matrices hold the links of the log
 pub record LinksMarked (l w w′ : List ℕ) : Type 0 where
-  pub outside : Outside 0 4096 w w′
+  pub outside : Outside linksAt nextAt w w′
   pub links : Matrix linksAt w′ (Link (graphOf l))
   pub ways : Matrix waysAt w′ (Link (graphOf l))
 
 -- row `a` of the ways has the ways of `k` besides, where it has `k`
 pub record RowClosed (w w′ : List ℕ) (a k : ℕ) : Type 0 where
-  pub outside : Outside waysAt 4096 w w′
+  pub outside : Outside waysAt nextAt w w′
   pub here : (y : ℕ) → y < 256 → bit w′ (waysAt + 8 * a) y ≡ max (bit w (waysAt + 8 * a) y) (min (bit w (waysAt + 8 * a) k) (bit w (waysAt + 8 * k) y))
   pub other : (x y : ℕ) → x < 256 → y < 256 → (x ≡ a → ⊥) → bit w′ (waysAt + 8 * x) y ≡ bit w (waysAt + 8 * x) y
 
 -- from the ways with inner episodes below `k` to those with inner episodes below k + 1
 pub record RoundClosed (w w′ : List ℕ) (n k : ℕ) : Type 0 where
-  pub outside : Outside waysAt 4096 w w′
+  pub outside : Outside waysAt nextAt w w′
   pub ways : (g : Graph) → EndsBelow g → g .n ≡ n → Matrix waysAt w (WayBelow g k) → Matrix waysAt w′ (WayBelow g (k + 1))
 
 -- from the links to the ways
 pub record Closed (w w′ : List ℕ) (n : ℕ) : Type 0 where
-  pub outside : Outside waysAt 4096 w w′
+  pub outside : Outside waysAt nextAt w w′
   pub ways : (g : Graph) → EndsBelow g → g .n ≡ n → Matrix waysAt w (Link g) → Matrix waysAt w′ (Way g)
 
 -- `r` is the first episode that has a way to itself, or `n`

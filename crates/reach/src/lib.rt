@@ -6,14 +6,14 @@ ghost use Prim.Native.Nat.{ℕ};
 ghost use Rattle.paths.specs.Graph.{Link, Way};
 ghost use Rattle.log.specs.Words.{kind, number};
 ghost use Rattle.log.specs.Log.{graphOf};
-ghost use Rattle.bits.specs.Work.{linksAt, waysAt, Matrix, Outside};
+ghost use Rattle.bits.specs.Work.{linksAt, waysAt, nextAt, Matrix, Outside};
 ghost use Rattle.reach.specs.Reach.{PassedLog, Marked, WordTaken, LinksMarked, RowClosed, RoundClosed, Closed, FirstLoop};
 use bits::LINKS;
 use bits::WAYS;
 
 // Marks the link from `a` to `b` in both matrices.
 fn mark(w: &mut [u32], a: usize, b: usize)
-    requires { ⌜ (4096 ≤ length (now w)) × (a < 256) × (b < 256) ⌝ }
+    requires { ⌜ (nextAt ≤ length (now w)) × (a < 256) × (b < 256) ⌝ }
     ensures { λ _. ⌜ Marked (now (w .entry)) (now (w .exit)) a b ⌝ }
 {
     bits::set_bit(w, LINKS + 8 * a, b);
@@ -22,7 +22,7 @@ fn mark(w: &mut [u32], a: usize, b: usize)
 
 // Takes a word between head and end: a from word's number is given back, and a to word's link from `from` is marked.
 fn take_word(word: u32, from: usize, w: &mut [u32]) -> usize
-    requires { ⌜ (4096 ≤ length (now w)) × (number word < 256) × ((kind word ≡ 2 → ⊥) → from < 256) ⌝ }
+    requires { ⌜ (nextAt ≤ length (now w)) × (number word < 256) × ((kind word ≡ 2 → ⊥) → from < 256) ⌝ }
     ensures { λ r. ⌜ WordTaken word from r (now (w .entry)) (now (w .exit)) ⌝ }
 {
     let number = log::number_of(word);
@@ -35,7 +35,7 @@ fn take_word(word: u32, from: usize, w: &mut [u32]) -> usize
 
 // Marks the links of a log that passes.
 fn mark_links(log: &[u32], w: &mut [u32])
-    requires { ⌜ PassedLog (now log) × (4096 ≤ length (now w)) × ((i : ℕ) → i < 4096 → getD (now w) i 0 ≡ 0) ⌝ }
+    requires { ⌜ PassedLog (now log) × (nextAt ≤ length (now w)) × ((i : ℕ) → i < nextAt → getD (now w) i 0 ≡ 0) ⌝ }
     ensures { λ _. ⌜ LinksMarked (now (log .entry)) (now (w .entry)) (now (w .exit)) ⌝ }
 {
     let mut from = 0;
@@ -48,7 +48,7 @@ fn mark_links(log: &[u32], w: &mut [u32])
 
 // Where `a` has a way to `k`, gives it the ways of `k`.
 fn close_row(w: &mut [u32], a: usize, k: usize)
-    requires { ⌜ (4096 ≤ length (now w)) × (a < 256) × (k < 256) ⌝ }
+    requires { ⌜ (nextAt ≤ length (now w)) × (a < 256) × (k < 256) ⌝ }
     ensures { λ _. ⌜ RowClosed (now (w .entry)) (now (w .exit)) a k ⌝ }
 {
     if bits::bit_at(w, WAYS + 8 * a, k) == 1 {
@@ -58,7 +58,7 @@ fn close_row(w: &mut [u32], a: usize, k: usize)
 
 // One round of Warshall's closure: ways by way of `k`.
 fn close_round(w: &mut [u32], n: usize, k: usize)
-    requires { ⌜ (4096 ≤ length (now w)) × (n ≤ 256) × (k < n) ⌝ }
+    requires { ⌜ (nextAt ≤ length (now w)) × (n ≤ 256) × (k < n) ⌝ }
     ensures { λ _. ⌜ RoundClosed (now (w .entry)) (now (w .exit)) n k ⌝ }
 {
     let mut a = 0;
@@ -70,7 +70,7 @@ fn close_round(w: &mut [u32], n: usize, k: usize)
 
 // The closure of the matrix of ways.
 fn close(w: &mut [u32], n: usize)
-    requires { ⌜ (4096 ≤ length (now w)) × (n ≤ 256) ⌝ }
+    requires { ⌜ (nextAt ≤ length (now w)) × (n ≤ 256) ⌝ }
     ensures { λ _. ⌜ Closed (now (w .entry)) (now (w .exit)) n ⌝ }
 {
     let mut k = 0;
@@ -82,8 +82,8 @@ fn close(w: &mut [u32], n: usize)
 
 // The links and the ways of a log that passes with `n` episodes, in words that are zero.
 pub fn reachability(log: &[u32], n: usize, w: &mut [u32])
-    requires { ⌜ PassedLog (now log) × (graphOf (now log) .n ≡ n) × (n ≤ 256) × (4096 ≤ length (now w)) × ((i : ℕ) → i < 4096 → getD (now w) i 0 ≡ 0) ⌝ }
-    ensures { λ _. ⌜ Outside 0 4096 (now (w .entry)) (now (w .exit)) × Matrix linksAt (now (w .exit)) (Link (graphOf (now (log .entry)))) × Matrix waysAt (now (w .exit)) (Way (graphOf (now (log .entry)))) ⌝ }
+    requires { ⌜ PassedLog (now log) × (graphOf (now log) .n ≡ n) × (n ≤ 256) × (nextAt ≤ length (now w)) × ((i : ℕ) → i < nextAt → getD (now w) i 0 ≡ 0) ⌝ }
+    ensures { λ _. ⌜ Outside linksAt nextAt (now (w .entry)) (now (w .exit)) × Matrix linksAt (now (w .exit)) (Link (graphOf (now (log .entry)))) × Matrix waysAt (now (w .exit)) (Way (graphOf (now (log .entry)))) ⌝ }
 {
     mark_links(log, w);
     close(w, n);
@@ -91,7 +91,7 @@ pub fn reachability(log: &[u32], n: usize, w: &mut [u32])
 
 // The first episode that has a way to itself, or `n`.
 pub fn first_loop(w: &[u32], n: usize) -> usize
-    requires { ⌜ (4096 ≤ length (now w)) × (n ≤ 256) ⌝ }
+    requires { ⌜ (nextAt ≤ length (now w)) × (n ≤ 256) ⌝ }
     ensures { λ r. ⌜ FirstLoop (now (w .entry)) n r ⌝ }
 {
     let mut v = 0;

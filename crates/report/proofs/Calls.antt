@@ -11,7 +11,7 @@ use Rattle.log.specs.Log.{questions, graphOf}
 use Rattle.log.specs.declared.Ceilings.{Ceilings}
 use Rattle.log.specs.declared.Reading.{Reading}
 use Rattle.log.proofs.Laws.{few-episodes, graph-episodes, links-below}
-use Rattle.bits.specs.Work.{linksAt, waysAt, usedWords, Matrix, Outside}
+use Rattle.bits.specs.Work.{linksAt, waysAt, usedWords, Matrix, Outside, nextAt}
 use Rattle.bits.proofs.Frames.{Cleared}
 use Rattle.paths.specs.Graph.{Link, Way}
 use Rattle.reach.specs.Reach.{PassedLog}
@@ -75,7 +75,7 @@ module _ (m : Ceilings) (l o w : List ℕ) (n t : ℕ) (e : questions m l ≡ gi
 
 -- the links and the ways of the log stand in words that were zero
 pub ready : (l : List ℕ) (n : ℕ) {w w₁ w₂ : List ℕ} → PassedLog l → graphOf l .n ≡ n → n < 256 → usedWords ≤ length w → Cleared 0 usedWords w w₁
-    → Outside 0 4096 w₁ w₂ × Matrix linksAt w₂ (Link (graphOf l)) × Matrix waysAt w₂ (Way (graphOf l)) → Ready (graphOf l) n w₂
+    → Outside linksAt nextAt w₁ w₂ × Matrix linksAt w₂ (Link (graphOf l)) × Matrix waysAt w₂ (Way (graphOf l)) → Ready (graphOf l) n w₂
 ready l n (m, n′, t, e, few) count small long zero (outside, links, ways) =
     record {
       count = count;

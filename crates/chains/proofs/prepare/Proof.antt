@@ -3,6 +3,7 @@
 use mathlib.Core.Logic.{⊎-elim}
 use Prim.Native.Nat.{_-_}
 use native.Mathlib.Omega.{arith}
+use Rattle.bits.specs.Work.{noneAt}
 use Rattle.bits.proofs.Frames.{part-cleared}
 use Rattle.chains.proofs.Preparing.{Filling, filling-none, filling-skip, filling-more, filling-done, cleared-unseen}
 use Rattle.chains.proofs.prepare.Statement.{statement}
@@ -80,7 +81,7 @@ returns c =
     let a = c .before .before .before .before .before .before .before .args in
     let at = c .before .loop in
     let cleared = c .before .before .before .before .clear in
-    let z = part-cleared (a .w .now) (cleared .last .0) 5120 8 5128 (omega arith) (omega arith) (cleared .ensures) in
+    let z = part-cleared (a .w .now) (cleared .last .0) 5120 8 noneAt (omega arith) (omega arith) (cleared .ensures) in
     filling-done (a .m) _ (at .w) (at .tail) (at .a) (omega arith) (at .inv) (a .w .now) (z .outside) (cleared-unseen _ _ z) (omega arith)
 
 pub prepare-spec : {M : Type 1} → statement M
