@@ -90,8 +90,8 @@ pub record Trail (m : ℕ) (R : ℕ → ℕ → Type 0) (t : Tables) (tail : ℕ
   pub different : (p q : ℕ) → p < tail → q < tail → t .queue p ≡ t .queue q → p ≡ q
   pub earlier : (p b : ℕ) → p < tail → b < m → t .next (t .queue p) ≡ b + 1 → SeenFrom R t p b
 
--- One chain fewer: the chains are sound again, each item stands behind one that it stood behind or has in R, and of the items that ended
--- a chain one does so no longer.
+-- One chain fewer: the chains are sound again, what stands behind an item stood there before or the item has it in R, and of the items
+-- that ended a chain one does so no longer.
 pub record Shrunk (m : ℕ) (R : ℕ → ℕ → Type 0) (t t′ : Tables) : Type 0 where
   pub matching : Matching m t′
   pub pairs : (a b : ℕ) → a < m → b < m → t′ .next a ≡ b + 1 → (t .next a ≡ b + 1) ⊎ R a b

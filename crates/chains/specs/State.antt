@@ -57,6 +57,11 @@ pub record SearchedIn (w w′ : List ℕ) (base m item : ℕ) : Type 0 where
   pub found : item < m
       → (tail : ℕ) × (tail ≤ m) × Trail m (Pairs base w) (tables w′) tail × Flipping m (Pairs base w) (tables w′) (tables w′) tail item
 
+-- `b` was seen from a place of the queue
+abbrev pub FlipAsked : List ℕ → ℕ → Type 0
+FlipAsked w b =
+    (usedWords ≤ length w) × (b < 256) × (0 < tables w .via b) × (tables w .via b ≤ 256) × (tables w .queue (tables w .via b - 1) < 256)
+
 -- `b` is put behind the item from which it was seen; `old` is, plus one, what stood behind that
 pub record FlippedIn (w w′ : List ℕ) (b old : ℕ) : Type 0 where
   pub outside : Outside nextAt viaAt w w′
@@ -68,7 +73,7 @@ abbrev pub ShrunkIn : List ℕ → List ℕ → ℕ → ℕ → Bool → Type 0
 ShrunkIn w w′ base m true = Outside nextAt noneAt w w′ × Shrunk m (Pairs base w) (tables w) (tables w′)
 ShrunkIn w w′ base m false = Outside viaAt noneAt w w′ × Exhausted m (Pairs base w) (tables w′)
 
--- As few chains as can be: each item stands behind one that it has in the matrix, and the search is exhausted.
+-- As few chains as can be: what stands behind an item the item has in the matrix, and the search is exhausted.
 pub record JoinedIn (w w′ : List ℕ) (base m : ℕ) : Type 0 where
   pub outside : Outside nextAt noneAt w w′
   pub matching : Matching m (tables w′)

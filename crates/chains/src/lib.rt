@@ -2,9 +2,9 @@
 ghost use mathlib.Core.Path.{_≡_};
 ghost use Prim.Native.Nat.{ℕ, _+_, _-_, _<_, _≤_};
 ghost use lib.ListN.{length, getD};
-ghost use Rattle.bits.specs.Work.{linksAt, nextAt, viaAt, usedWords};
+ghost use Rattle.bits.specs.Work.{nextAt, viaAt, usedWords};
 ghost use Rattle.chains.specs.Items.{Matching, Searching};
-ghost use Rattle.chains.specs.State.{tables, Pairs, Sized, PreparedIn, SawIn, ShownIn, SearchedIn, FlippedIn, ShrunkIn, JoinedIn, SelvesIn, LoopedIn};
+ghost use Rattle.chains.specs.State.{tables, Pairs, Sized, PreparedIn, SawIn, ShownIn, SearchedIn, FlipAsked, FlippedIn, ShrunkIn, JoinedIn, SelvesIn, LoopedIn};
 use bits::LINKS;
 use bits::NEXT;
 use bits::NONE;
@@ -93,7 +93,7 @@ fn search(w: &mut [u32], base: usize, m: usize) -> usize
 
 // Puts `b` behind the item from which it was seen, and gives what stood there before, plus one.
 fn flip(w: &mut [u32], b: usize) -> usize
-    requires { ⌜ (usedWords ≤ length (now w)) × (b < 256) × (0 < tables (now w) .via b) × (tables (now w) .via b ≤ 256) × (tables (now w) .queue (tables (now w) .via b - 1) < 256) ⌝ }
+    requires { ⌜ FlipAsked (now w) b ⌝ }
     ensures { λ r. ⌜ FlippedIn (now (w .entry)) (now (w .exit)) b r ⌝ }
 {
     let place = w[VIA + b] as usize - 1;

@@ -2,6 +2,7 @@
 use mathlib.Core.Path.{_≡_}
 use mathlib.Core.List.{List}
 use Prim.Native.Nat.{ℕ, _+_, _*_, _≤_, _<_, max, min}
+use lib.ListN.{getD}
 use Rattle.paths.specs.Graph.{Graph, EndsBelow, Link, Way}
 use Rattle.paths.specs.Closure.{WayBelow}
 use Rattle.log.specs.Words.{kind, number}
@@ -14,6 +15,10 @@ use Rattle.bits.specs.Work.{linksAt, waysAt, Matrix, Outside, nextAt}
 -- the log passes questions 1 to 10 at some ceilings of at most 256 episodes
 abbrev pub PassedLog : List ℕ → Type 0
 PassedLog l = (m : Ceilings) × (n : ℕ) × (t : ℕ) × (questions m l ≡ given (n, t)) × (n ≤ 256)
+
+-- the words of both matrices are zero
+abbrev pub NoneMarked : List ℕ → Type 0
+NoneMarked w = (i : ℕ) → i < nextAt → getD w i 0 ≡ 0
 
 -- the link from `a` to `b` is marked in both matrices
 pub record Marked (w w′ : List ℕ) (a b : ℕ) : Type 0 where
@@ -49,6 +54,12 @@ pub record RoundClosed (w w′ : List ℕ) (n k : ℕ) : Type 0 where
 pub record Closed (w w′ : List ℕ) (n : ℕ) : Type 0 where
   pub outside : Outside waysAt nextAt w w′
   pub ways : (g : Graph) → EndsBelow g → g .n ≡ n → Matrix waysAt w (Link g) → Matrix waysAt w′ (Way g)
+
+-- the matrices hold the links and the ways of the log
+pub record ReachedLog (l w w′ : List ℕ) : Type 0 where
+  pub outside : Outside linksAt nextAt w w′
+  pub links : Matrix linksAt w′ (Link (graphOf l))
+  pub ways : Matrix waysAt w′ (Way (graphOf l))
 
 -- `r` is the first episode that has a way to itself, or `n`
 pub record FirstLoop (w : List ℕ) (n r : ℕ) : Type 0 where

@@ -1,13 +1,11 @@
 // Who has a way to whom: the links of a log as a matrix of bits, and its closure.
 ghost use mathlib.Core.Path.{_≡_};
 ghost use Prim.Native.Nat.{_+_, _*_, _<_, _≤_};
-ghost use lib.ListN.{length, getD};
-ghost use Prim.Native.Nat.{ℕ};
-ghost use Rattle.paths.specs.Graph.{Link, Way};
+ghost use lib.ListN.{length};
 ghost use Rattle.log.specs.Words.{kind, number};
 ghost use Rattle.log.specs.Log.{graphOf};
-ghost use Rattle.bits.specs.Work.{linksAt, waysAt, nextAt, Matrix, Outside};
-ghost use Rattle.reach.specs.Reach.{PassedLog, Marked, WordTaken, LinksMarked, RowClosed, RoundClosed, Closed, FirstLoop};
+ghost use Rattle.bits.specs.Work.{nextAt};
+ghost use Rattle.reach.specs.Reach.{PassedLog, NoneMarked, Marked, WordTaken, LinksMarked, RowClosed, RoundClosed, Closed, ReachedLog, FirstLoop};
 use bits::LINKS;
 use bits::WAYS;
 
@@ -35,7 +33,7 @@ fn take_word(word: u32, from: usize, w: &mut [u32]) -> usize
 
 // Marks the links of a log that passes.
 fn mark_links(log: &[u32], w: &mut [u32])
-    requires { ⌜ PassedLog (now log) × (nextAt ≤ length (now w)) × ((i : ℕ) → i < nextAt → getD (now w) i 0 ≡ 0) ⌝ }
+    requires { ⌜ PassedLog (now log) × (nextAt ≤ length (now w)) × NoneMarked (now w) ⌝ }
     ensures { λ _. ⌜ LinksMarked (now (log .entry)) (now (w .entry)) (now (w .exit)) ⌝ }
 {
     let mut from = 0;
@@ -82,8 +80,8 @@ fn close(w: &mut [u32], n: usize)
 
 // The links and the ways of a log that passes with `n` episodes, in words that are zero.
 pub fn reachability(log: &[u32], n: usize, w: &mut [u32])
-    requires { ⌜ PassedLog (now log) × (graphOf (now log) .n ≡ n) × (n ≤ 256) × (nextAt ≤ length (now w)) × ((i : ℕ) → i < nextAt → getD (now w) i 0 ≡ 0) ⌝ }
-    ensures { λ _. ⌜ Outside linksAt nextAt (now (w .entry)) (now (w .exit)) × Matrix linksAt (now (w .exit)) (Link (graphOf (now (log .entry)))) × Matrix waysAt (now (w .exit)) (Way (graphOf (now (log .entry)))) ⌝ }
+    requires { ⌜ PassedLog (now log) × (graphOf (now log) .n ≡ n) × (n ≤ 256) × (nextAt ≤ length (now w)) × NoneMarked (now w) ⌝ }
+    ensures { λ _. ⌜ ReachedLog (now (log .entry)) (now (w .entry)) (now (w .exit)) ⌝ }
 {
     mark_links(log, w);
     close(w, n);

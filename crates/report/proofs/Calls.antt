@@ -11,10 +11,9 @@ use Rattle.log.specs.Log.{questions, graphOf}
 use Rattle.log.specs.declared.Ceilings.{Ceilings}
 use Rattle.log.specs.declared.Reading.{Reading}
 use Rattle.log.proofs.Laws.{few-episodes, graph-episodes, links-below}
-use Rattle.bits.specs.Work.{linksAt, waysAt, usedWords, Matrix, Outside, nextAt}
+use Rattle.bits.specs.Work.{usedWords}
 use Rattle.bits.proofs.Frames.{Cleared}
-use Rattle.paths.specs.Graph.{Link, Way}
-use Rattle.reach.specs.Reach.{PassedLog}
+use Rattle.reach.specs.Reach.{PassedLog, ReachedLog}
 use Rattle.writing.specs.Layout.{reportNeed}
 use Rattle.report.specs.Report.{workWords, asked, cleared, Passes, Left}
 use Rattle.report.specs.Solving.{Ready, Answered}
@@ -68,21 +67,22 @@ module _ (m : Ceilings) (l o w : List ℕ) (n t : ℕ) (e : questions m l ≡ gi
   left-answered o′ h k (Looped c) d f = (passes h k, d, f)
   left-answered o′ h k (Refused q p) d f = absurd d
 
-  -- the work words, made zero, and the others
-  pub work-cleared : (part : List ℕ) → workWords ≤ length w → part ≡ replicate (length (take workWords w)) 0 → part ++ drop workWords w ≡ cleared w
-  unfolding cleared
-  work-cleared part h f = rw (f, length-take-le workWords w h)
+-- the work words, made zero, and the others
+pub work-cleared : (w part : List ℕ) → workWords ≤ length w → part ≡ replicate (length (take workWords w)) 0
+    → part ++ drop workWords w ≡ cleared w
+unfolding cleared
+work-cleared w part h f = rw (f, length-take-le workWords w h)
 
 -- the links and the ways of the log stand in words that were zero
-pub ready : (l : List ℕ) (n : ℕ) {w w₁ w₂ : List ℕ} → PassedLog l → graphOf l .n ≡ n → n < 256 → usedWords ≤ length w → Cleared 0 usedWords w w₁
-    → Outside linksAt nextAt w₁ w₂ × Matrix linksAt w₂ (Link (graphOf l)) × Matrix waysAt w₂ (Way (graphOf l)) → Ready (graphOf l) n w₂
-ready l n (m, n′, t, e, few) count small long zero (outside, links, ways) =
+pub ready : (l : List ℕ) (n : ℕ) {w w₁ w₂ : List ℕ} → PassedLog l → graphOf l .n ≡ n → n < 256 → usedWords ≤ length w
+    → Cleared 0 usedWords w w₁ → ReachedLog l w₁ w₂ → Ready (graphOf l) n w₂
+ready l n (m, n′, t, e, few) count small long zero reached =
     record {
       count = count;
       few = small;
-      long = rw (outside .same-length, zero .outside .same-length) long;
+      long = rw (reached .outside .same-length, zero .outside .same-length) long;
       ends = links-below m l n′ t e;
-      links = links;
-      ways = ways;
-      empty = λ i lo hi. outside .behind i lo ∙ zero .zeros i (omega arith) hi;
+      links = reached .links;
+      ways = reached .ways;
+      empty = λ i lo hi. reached .outside .behind i lo ∙ zero .zeros i (omega arith) hi;
     }

@@ -1,6 +1,6 @@
 // The report on a log.
 ghost use mathlib.Core.Path.{_≡_};
-ghost use Prim.Native.Nat.{ℕ, _+_, _<_, _≤_};
+ghost use Prim.Native.Nat.{_+_, _<_, _≤_};
 ghost use lib.ListN.{length, replicate};
 ghost use Rattle.paths.specs.Graph.{Graph};
 ghost use Rattle.log.specs.Log.{service, graphOf};

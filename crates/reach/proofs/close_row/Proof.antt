@@ -21,8 +21,9 @@ same-length c = search needs
 
 returns : tie.Need-returns
 returns c =
+    let joined = c .before .before .join-row in
     let s = c .before .before .before .before .before .before .before .before in
-    row-joined-closed (s .args .w .now) (c .before .before .join-row .last .0) (s .args .a) (s .args .k) (s .pre .1) (s .pre .2) (omega arith) (c .before .before .join-row .ensures)
+    row-joined-closed (s .args .w .now) (joined .last .0) (s .args .a) (s .args .k) (s .pre .1) (s .pre .2) (omega arith) (joined .ensures)
 
 same-length-2 : tie.Need-same-length-2
 same-length-2 c = search needs

@@ -26,8 +26,9 @@ same-length c = search needs
 
 returns : tie.Need-returns
 returns c =
-    let s = c .before .before .before .before .before .before .before .before .before in
-    marked (s .args .a) (s .args .b) (s .pre .1) (s .pre .2) (c .before .before .before .before .before .before .set-bit .ensures) (c .before .before .set-bit2 .ensures)
+    let first = c .before .before .before .before .before .before in
+    let s = first .before .before .before in
+    marked (s .args .a) (s .args .b) (s .pre .1) (s .pre .2) (first .set-bit .ensures) (c .before .before .set-bit2 .ensures)
 
 pub mark-spec : {M : Type 1} → statement M
 mark-spec =

@@ -1,9 +1,23 @@
+-- `report::report_within` meets its contract: on each way out the questions have been answered as the outcome says, and the buffers are
+-- as it says. Assumes nothing.
+use borrow.Author.Needs.{needs}
+use mathlib.Core.Path.{_≡_}
+use native.Mathlib.Omega.{arith}
 use lib.Seq.{length-take-le}
+use Rattle.log.specs.Answer.{given}
+use Rattle.log.specs.Log.{questions}
 use Rattle.log.proofs.Laws.{graph-episodes}
 use Rattle.report.specs.Report.{workWords}
-use native.Mathlib.Omega.{arith}
-use Rattle.report.proofs.Calls.{told, passed-few, passed-log, left-denied, left-short-output, left-short-work, left-answered, work-cleared}
-use borrow.Author.Needs.{needs}
+use Rattle.report.proofs.Calls.{
+  told,
+  passed-few,
+  passed-log,
+  left-denied,
+  left-short-output,
+  left-short-work,
+  left-answered,
+  work-cleared,
+}
 use Rattle.report.proofs.report_within.Statement.{statement}
 use Rattle.report.proofs.report_within.Tie as tie
 
@@ -16,26 +30,38 @@ enum-known-number c = search needs
 enum-known-n : tie.Need-enum-known-n
 enum-known-n c = search needs
 
+-- the entry, from the place where questions 1 to 10 have been answered yes
+abbrev start : tie.After-n → tie.Start
+start at = at .before .before .before .before .before .before
+
+passed : (at : tie.After-n)
+    → questions (start at .args .most) (start at .args .log .now) ≡ given (at .n .given .0 .0, at .n .given .0 .1 .0)
+passed at = told (at .before .before .read-within .ensures) (at .n .given .1)
+
 report-need-requires : tie.Need-report-need-requires
 report-need-requires c κs =
-    let s = c .before .before .before .before .before .before .before in
-    let v = c .before .n .given .0 in
-    let e = told (c .before .before .before .read-within .ensures) (c .before .n .given .1) in
-    omega (arith, passed-few (s .args .most) (s .args .log .now) (s .args .out .now) (s .args .work .now) (v .0) (v .1 .0) e (s .pre))
+    let at = c .before in
+    let s = start at in
+    let v = at .n .given .0 in
+    let few = passed-few (s .args .most) (s .args .log .now) (s .args .out .now) (s .args .work .now) (v .0) (v .1 .0) (passed at) (s .pre) in
+    omega arith
 
 returns : tie.Need-returns
 returns c =
-    let s = c .before .before .before .before .before .before .before .before .before in
-    let v = c .before .before .before .n .given .0 in
-    let e = told (c .before .before .before .before .before .read-within .ensures) (c .before .before .before .n .given .1) in
-    left-short-output (s .args .most) (s .args .log .now) (s .args .out .now) (s .args .work .now) (v .0) (v .1 .0) e (c .before .report-need .result) (c .before .report-need .ensures) (omega arith)
+    let need = c .before .report-need in
+    let at = c .before .before .before in
+    let s = start at in
+    let v = at .n .given .0 in
+    left-short-output (s .args .most) (s .args .log .now) (s .args .out .now) (s .args .work .now) (v .0) (v .1 .0) (passed at)
+    (need .result) (need .ensures) (omega arith)
 
 returns-2 : tie.Need-returns-2
 returns-2 c =
-    let s = c .before .before .before .before .before .before .before .before .before .before in
-    let v = c .before .before .before .before .n .given .0 in
-    let e = told (c .before .before .before .before .before .before .read-within .ensures) (c .before .before .before .before .n .given .1) in
-    left-short-work (s .args .most) (s .args .log .now) (s .args .out .now) (s .args .work .now) (v .0) (v .1 .0) e (omega arith) (omega arith)
+    let at = c .before .before .before .before in
+    let s = start at in
+    let v = at .n .given .0 in
+    left-short-work (s .args .most) (s .args .log .now) (s .args .out .now) (s .args .work .now) (v .0) (v .1 .0) (passed at)
+    (omega arith) (omega arith)
 
 sub-solve : tie.Need-sub-solve
 sub-solve c = search needs
@@ -48,12 +74,12 @@ part-solve-end c = search needs
 
 solve-requires : tie.Need-solve-requires
 solve-requires c κs =
-    let s = c .before .before .before .before .before .before .before .before .before .before .before .before in
-    let v = c .before .before .before .before .before .before .n .given .0 in
-    let e = told (c .before .before .before .before .before .before .before .before .read-within .ensures) (c .before .before .before .before .before .before .n .given .1) in (
-      passed-log (s .args .most) (s .args .log .now) (s .args .out .now) (s .args .work .now) (v .0) (v .1 .0) e (s .pre),
-      graph-episodes (s .args .most) (s .args .log .now) (v .0) (v .1 .0) e,
-      passed-few (s .args .most) (s .args .log .now) (s .args .out .now) (s .args .work .now) (v .0) (v .1 .0) e (s .pre),
+    let at = c .before .before .before .before .before .before in
+    let s = start at in
+    let v = at .n .given .0 in (
+      passed-log (s .args .most) (s .args .log .now) (s .args .out .now) (s .args .work .now) (v .0) (v .1 .0) (passed at) (s .pre),
+      graph-episodes (s .args .most) (s .args .log .now) (v .0) (v .1 .0) (passed at),
+      passed-few (s .args .most) (s .args .log .now) (s .args .out .now) (s .args .work .now) (v .0) (v .1 .0) (passed at) (s .pre),
       omega arith,
       length-take-le workWords (s .args .work .now) (omega arith),
     )
@@ -73,12 +99,14 @@ same-length-2 c = search needs
 
 returns-4 : tie.Need-returns-4
 returns-4 c =
-    let s = c .before .before .before .before .before .before .before .before .before .before .before .before .before .before .before .before .before in
-    let v = c .before .before .before .before .before .before .before .before .before .before .before .n .given .0 in
-    let e = told (c .before .before .before .before .before .before .before .before .before .before .before .before .before .read-within .ensures) (c .before .before .before .before .before .before .before .before .before .before .before .n .given .1) in
-    let done = c .before .before .before .before .solve in
-    left-answered (s .args .most) (s .args .log .now) (s .args .out .now) (s .args .work .now) (v .0) (v .1 .0) e (done .last .1 .1 .0) (omega arith) (omega arith) (done .result) (done .ensures .0)
-    (work-cleared (s .args .most) (s .args .log .now) (s .args .out .now) (s .args .work .now) (v .0) (v .1 .0) e (done .last .1 .1 .1 .0) (omega arith) (done .ensures .1))
+    let solved = c .before .before .before .before in
+    let done = solved .solve in
+    let at = solved .before .before .before .before .before .before .before in
+    let s = start at in
+    let v = at .n .given .0 in
+    left-answered (s .args .most) (s .args .log .now) (s .args .out .now) (s .args .work .now) (v .0) (v .1 .0) (passed at)
+    (done .last .1 .1 .0) (omega arith) (omega arith) (done .result) (done .ensures .0)
+    (work-cleared (s .args .work .now) (done .last .1 .1 .1 .0) (omega arith) (done .ensures .1))
 
 pub report-within-spec : {M : Type 1} → statement M
 report-within-spec =
