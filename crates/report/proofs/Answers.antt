@@ -73,9 +73,9 @@ module _ {g : Graph} {n v : ℕ} {w : List ℕ} (ready : Ready g n w) (first : F
           shrunk = shrunk;
         }
 
-    pub loop-answered : {o o′ : List ℕ} {r : ℕ} → LoopWritten w′ o o′ n v r → ShowsLoop g r o o′
+    pub loop-answered : {o o′ : List ℕ} {r : ℕ} → LoopWritten w′ o o′ v r → ShowsLoop g r o o′
     loop-answered d =
-        let (l, starts) = d .of g looping in (
+        let (l, starts) = d .of g n looping in (
           d .loop,
           record { loop = l; smallest-first = rw starts (loop-least none-before l) },
           sym (d .size),

@@ -37,7 +37,7 @@ fn answer(n: usize, out: &mut [u32], w: &mut [u32]) -> Outcome
     let v = reach::first_loop(w, n);
     if v < n {
         chains::find_loop(w, n, v);
-        return Outcome::Loop(writing::write_loop(w, n, v, out));
+        return Outcome::Loop(writing::write_loop(w, v, out));
     }
     chains::join(w, WAYS, n);
     Outcome::Report(writing::write_report(w, n, out))

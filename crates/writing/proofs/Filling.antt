@@ -54,7 +54,8 @@ pub record Filling (w : List ℕ) (n v : ℕ) (o o′ : List ℕ) (at target cou
   pub before : List ℕ
   pub first : ℕ
   pub start : ℕ
-  pub starts : StartOf w n v start
+  pub starts : StartOf w v start
+  pub start-below : start < n
   pub size : count ≡ length before + 1
   pub words : BeginsWith (first ∷ map (word 7) (before ++ (at ∷ []))) o o′
   pub at-below : at < n
@@ -70,26 +71,27 @@ Nearer w at target = (at ≡ target) ⊎ (bit w (waysAt + 8 * at) target ≡ 1)
 abbrev pub Ahead : List ℕ → ℕ → ℕ → List ℕ → List ℕ → ℕ → ℕ → ℕ → Type 0
 Ahead w n v o o′ at target count = Filling w n v o o′ at target count × (bit w (waysAt + 8 * at) target ≡ 1)
 
-module _ {w : List ℕ} {n v s : ℕ} (o : List ℕ) (h : StartOf w n v s) where
+module _ {w : List ℕ} {n s : ℕ} (o : List ℕ) (below : s < n) where
   -- a thread of one step
-  pub filling-starts : 1 < length o → Filling w n v (set o 1 (word 7 s)) (set o 1 (word 7 s)) s s 1
-  filling-starts l =
+  pub filling-starts : {v : ℕ} → StartOf w v s → 1 < length o → Filling w n v (set o 1 (word 7 s)) (set o 1 (word 7 s)) s s 1
+  filling-starts h l =
       record {
         before = [];
         first = getD o 0 0;
         start = s;
         starts = h;
+        start-below = below;
         size = refl;
         words = begins-second (word 7 s) o l;
-        at-below = h .below;
-        target-below = h .below;
-        thread = λ g q. thread-single (rw (q .count) (h .below));
+        at-below = below;
+        target-below = below;
+        thread = λ g q. thread-single (rw (q .count) below);
         holds = λ x p. inr p;
       }
 
   -- there is room for it
   pub starts-room : {g : Graph} → Solved g n w → ((th : List ℕ) → Thread g th → length th + 1 ≤ length o) → 1 < length o
-  starts-room q room = room (s ∷ []) (thread-single (rw (q .count) (h .below)))
+  starts-room q room = room (s ∷ []) (thread-single (rw (q .count) below))
 
 module _ {w : List ℕ} {n v : ℕ} {o o′ : List ℕ} {at target count : ℕ} (f : Filling w n v o o′ at target count) where
   pub filling-length : length o′ ≡ length o
@@ -115,6 +117,7 @@ module _ {w : List ℕ} {n v : ℕ} {o o′ : List ℕ} {at target count : ℕ} 
       first = f .first;
       start = f .start;
       starts = f .starts;
+      start-below = f .start-below;
       size = f .size;
       words = f .words;
       at-below = f .at-below;
@@ -182,6 +185,7 @@ module _ {w : List ℕ} {n v : ℕ} {o o′ : List ℕ} {at target count : ℕ} 
         first = f .first;
         start = f .start;
         starts = f .starts;
+        start-below = f .start-below;
         size = let b = length-snoc (f .before) at in let c = f .size in omega arith;
         words =
             subst (λ (ws : List ℕ). BeginsWith ws o (set o′ i (word 7 r)))
@@ -236,7 +240,7 @@ module _ {w : List ℕ} {n v : ℕ} {o o′ : List ℕ} {at target count : ℕ} 
           go : (x ≡ s) ⊎ ((d : ℕ) × Steps (tables w .next) x d × (tables w .next d ≡ s + 1)) → Steps (tables w .next) s x
           go (inl k) = steps-same (sym k)
           go (inr (d, r, k)) =
-              let a : tables w .prev s ≡ d + 1 = q .matching .there d s (steps-below (q .matching) h r) (f .starts .below) k in
+              let a : tables w .prev s ≡ d + 1 = q .matching .there d s (steps-below (q .matching) h r) (f .start-below) k in
               let b : tables w .prev s ≡ 0 = f .starts .first in
               absurd (omega arith)
 
@@ -244,7 +248,7 @@ module _ {w : List ℕ} {n v : ℕ} {o o′ : List ℕ} {at target count : ℕ} 
       holds g q x h (inr p) = behind x (steps-trans (f .starts .steps) p)
       holds g q x h (inl p) =
           let lt : x < n = rw (q .count) at h in
-          behind x (⊎-elim (λ r. r) (before g q x lt) (steps-join (q .matching) (f .starts .below) lt (f .starts .steps) p))
+          behind x (⊎-elim (λ r. r) (before g q x lt) (steps-join (q .matching) (f .start-below) lt (f .starts .steps) p))
 
 -- what was stored there before does not matter
 pub written-over : {w o o′ : List ℕ} {n v r : ℕ} (x : ℕ) → 1 < r → ThreadWritten w (set o 1 x) o′ n v r → ThreadWritten w o o′ n v r

@@ -47,7 +47,7 @@ module _ (w : List ℕ) (n c b : ℕ) (solved : (g : Graph) × Solved g n w) whe
           let none = none-set y (omega arith) in
           absurd (omega arith)
 
-  pub hop-done : (x : ℕ) → c < n → b < n → bit w (waysAt + 8 * c) b ≡ 1 → Hopping w c b x → 256 ≤ x → ⊥
+  pub hop-done : (x : ℕ) → c < n → b < n → bit w (waysAt + 8 * c) b ≡ 1 → Hopping w c b x → n ≤ x → ⊥
   hop-done x cl bl e s h = go (solved .1 .ways .sound c b (omega arith) (omega arith) e)
     where
       g : Graph

@@ -17,7 +17,10 @@ use Rattle.writing.specs.Writing.{Looping, LoopWritten}
 use Rattle.writing.proofs.Buffers.{begins-second, begins-over, begins-first, begins-word}
 
 -- the first word is left, and `count` episodes of the loop are written behind it; `x` comes next
-pub record Written (w o o′ : List ℕ) (n v count x : ℕ) : Type 0 where
+pub record Written (w o o′ : List ℕ) (v count x : ℕ) : Type 0 where
+  pub g : Graph
+  pub n : ℕ
+  pub looping : Looping g n v w
   pub below : x < n
   pub some : 1 ≤ count
   pub few : count ≤ n
@@ -27,81 +30,75 @@ pub record Written (w o o′ : List ℕ) (n v count x : ℕ) : Type 0 where
   pub loop : List ℕ
   pub size : count ≡ length loop
   pub words : BeginsWith (first ∷ map (word 7) loop) o o′
-  pub walk : (g : Graph) → Looping g n v w → Walking g (tables w) v loop x
+  pub walk : (g : Graph) (n : ℕ) → Looping g n v w → Walking g (tables w) v loop x
 
-module _ (w : List ℕ) (n v : ℕ) where
-  selves-of : (g : Graph) (l : Looping g n v w) → Selves (g .n) (l .selves) v
-  selves-of g l = subst (λ (m : ℕ). Selves m (l .selves) v) (sym (l .count)) (l .selves-are)
+selves-of : {g : Graph} {n v : ℕ} {w : List ℕ} (l : Looping g n v w) → Selves (g .n) (l .selves) v
+selves-of {v = v} l = subst (λ (m : ℕ). Selves m (l .selves) v) (sym (l .count)) (l .selves-are)
 
-  shrunk-of : (g : Graph) (l : Looping g n v w) → Shrunk (g .n) (Link g) (l .selves) (tables w)
-  shrunk-of g l = subst (λ (m : ℕ). Shrunk m (Link g) (l .selves) (tables w)) (sym (l .count)) (l .shrunk)
+shrunk-of : {g : Graph} {n v : ℕ} {w : List ℕ} (l : Looping g n v w) → Shrunk (g .n) (Link g) (l .selves) (tables w)
+shrunk-of {g} {w = w} l = subst (λ (m : ℕ). Shrunk m (Link g) (l .selves) (tables w)) (sym (l .count)) (l .shrunk)
 
-  module _ (looping : (g : Graph) × Looping g n v w) where
-    -- each episode has one behind it
-    pub loop-next : (x : ℕ) → x < n → (0 < getD w (nextAt + x) 0) × (getD w (nextAt + x) 0 ≤ n)
-    loop-next x l = (
-      shrunk-next (looping .1 .selves-are) (looping .1 .shrunk) x l,
-      looping .1 .shrunk .matching .next-le x l,
-    )
+module _ {g : Graph} {n v : ℕ} {w : List ℕ} (l : Looping g n v w) where
+  -- each episode has one behind it
+  pub loop-next : (x : ℕ) → x < n → (0 < getD w (nextAt + x) 0) × (getD w (nextAt + x) 0 ≤ n)
+  loop-next x h = (shrunk-next (l .selves-are) (l .shrunk) x h, l .shrunk .matching .next-le x h)
 
-    pub walk-first : (o : List ℕ) → n + 1 ≤ length o
-        → Written w (set o 1 (word 7 v)) (set o 1 (word 7 v)) n v 1 (getD w (nextAt + v) 0 - 1)
-    walk-first o h =
-        let l = looping .1 .selves-are .below in
-        let p = loop-next v l in
-        record {
-          below = omega arith;
-          some = omega arith;
-          few = omega arith;
-          long = let e = length-set o 1 (word 7 v) in omega arith;
-          same-length = refl;
-          first = getD o 0 0;
-          loop = v ∷ [];
-          size = refl;
-          words = begins-second (word 7 v) o (omega arith);
-          walk = λ g k. walk-start (selves-of g k) (shrunk-of g k) (omega arith);
-        }
-
-    module _ (o o′ : List ℕ) (count x : ℕ) (s : Written w o o′ n v count x) where
-      pub walk-room : x ≢ v → count < n
-      walk-room ne =
-          let h = walk-short (s .walk (looping .0) (looping .1)) ne in
-          let e = looping .1 .count in
-          let z = s .size in
-          omega arith
-
-      pub walk-more : x ≢ v → Written w o (set o′ (count + 1) (word 7 x)) n v (count + 1) (getD w (nextAt + x) 0 - 1)
-      walk-more ne =
-          let z = s .size in
-          let f = s .long in
-          let d = s .same-length in
-          let e = length-set o′ (count + 1) (word 7 x) in
-          let r = walk-room ne in
-          let p = loop-next x (s .below) in
-          record {
-            below = omega arith;
-            some = omega arith;
-            few = omega arith;
-            long = omega arith;
-            same-length = omega arith;
-            first = s .first;
-            loop = s .loop ++ x ∷ [];
-            size = sym (length-append (s .loop) (x ∷ []) ∙ omega arith);
-            words = begins-word 7 (s .first) x (count + 1) (s .loop) o o′ (s .words) (omega arith) (omega arith);
-            walk = λ g k. walk-on (selves-of g k) (shrunk-of g k) (s .walk g k) ne (omega arith);
-          }
-
-  pub walk-done : (o o′ : List ℕ) (count x y : ℕ) → Written w (set o 1 y) o′ n v count x → x ≡ v
-      → LoopWritten w o (set o′ 0 (word 8 count)) n v count
-  unfolding loopWords
-  walk-done o o′ count x y s e =
+  pub walk-first : (o : List ℕ) → n + 1 ≤ length o
+      → Written w (set o 1 (word 7 v)) (set o 1 (word 7 v)) v 1 (getD w (nextAt + v) 0 - 1)
+  walk-first o h =
+      let p = loop-next v (l .selves-are .below) in
       record {
-        loop = s .loop;
-        size = s .size;
-        words =
-            begins-over (word 8 (length (s .loop)) ∷ map (word 7) (s .loop)) o (set o′ 0 (word 8 count)) 1 y
-            (let i = s .size in let j = s .some in let l = length-map (s .loop) (word 7) in omega arith)
-            (subst (λ (k : ℕ). BeginsWith (word 8 k ∷ map (word 7) (s .loop)) (set o 1 y) (set o′ 0 (word 8 count))) (s .size)
-            (begins-first (s .first) (word 8 count) (map (word 7) (s .loop)) (set o 1 y) o′ (s .words)));
-        of = λ g k. walk-end (subst (λ (u : ℕ). Walking g (tables w) v (s .loop) u) e (s .walk g k));
+        g = g;
+        n = n;
+        looping = l;
+        below = omega arith;
+        some = omega arith;
+        few = omega arith;
+        long = let e = length-set o 1 (word 7 v) in omega arith;
+        same-length = refl;
+        first = getD o 0 0;
+        loop = v ∷ [];
+        size = refl;
+        words = begins-second (word 7 v) o (omega arith);
+        walk = λ g n k. walk-start (selves-of k) (shrunk-of k) (omega arith);
       }
+
+module _ {w o o′ : List ℕ} {v count x : ℕ} (s : Written w o o′ v count x) where
+  pub walk-room : x ≢ v → count < s .n
+  walk-room ne = let h = walk-short (s .walk (s .g) (s .n) (s .looping)) ne in omega arith
+
+  pub walk-more : x ≢ v → Written w o (set o′ (count + 1) (word 7 x)) v (count + 1) (getD w (nextAt + x) 0 - 1)
+  walk-more ne =
+      let e = length-set o′ (count + 1) (word 7 x) in
+      let r = walk-room ne in
+      let p = loop-next (s .looping) x (s .below) in
+      record {
+        g = s .g;
+        n = s .n;
+        looping = s .looping;
+        below = omega arith;
+        some = omega arith;
+        few = omega arith;
+        long = omega arith;
+        same-length = omega arith;
+        first = s .first;
+        loop = s .loop ++ x ∷ [];
+        size = sym (length-append (s .loop) (x ∷ []) ∙ omega arith);
+        words = begins-word 7 (s .first) x (count + 1) (s .loop) o o′ (s .words) (omega arith) (omega arith);
+        walk = λ g n k. walk-on (selves-of k) (shrunk-of k) (s .walk g n k) ne (omega arith);
+      }
+
+pub walk-done : {w o o′ : List ℕ} {v count x : ℕ} (y : ℕ) → Written w (set o 1 y) o′ v count x → x ≡ v
+    → LoopWritten w o (set o′ 0 (word 8 count)) v count
+unfolding loopWords
+walk-done {w} {o} {o′} {v} {count} y s e =
+    record {
+      loop = s .loop;
+      size = s .size;
+      words =
+          begins-over (word 8 (length (s .loop)) ∷ map (word 7) (s .loop)) o (set o′ 0 (word 8 count)) 1 y
+          (let l = length-map (s .loop) (word 7) in omega arith)
+          (subst (λ (k : ℕ). BeginsWith (word 8 k ∷ map (word 7) (s .loop)) (set o 1 y) (set o′ 0 (word 8 count))) (s .size)
+          (begins-first (s .first) (word 8 count) (map (word 7) (s .loop)) (set o 1 y) o′ (s .words)));
+      of = λ g n k. walk-end (subst (λ (u : ℕ). Walking g (tables w) v (s .loop) u) e (s .walk g n k));
+    }

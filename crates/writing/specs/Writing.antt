@@ -35,8 +35,8 @@ pub record ApartWritten (w o o′ : List ℕ) (n k : ℕ) : Type 0 where
   pub words : BeginsWith (word 4 k ∷ map (word 5) (members (tables w) n)) o o′
 
 -- the first episode of the chain of `v`
-pub record StartOf (w : List ℕ) (n v r : ℕ) : Type 0 where
-  pub below : r < n
+pub record StartOf (w : List ℕ) (v r : ℕ) : Type 0 where
+  pub below : (n : ℕ) → Matching n (tables w) → v < n → r < n
   pub first : tables w .prev r ≡ 0
   pub steps : Steps (tables w .next) r v
 
@@ -77,8 +77,8 @@ pub record Looping (g : Graph) (n v : ℕ) (w : List ℕ) : Type 0 where
   pub shrunk : Shrunk n (Link g) selves (tables w)
 
 -- a loop from `v` on, of `r` episodes
-pub record LoopWritten (w o o′ : List ℕ) (n v r : ℕ) : Type 0 where
+pub record LoopWritten (w o o′ : List ℕ) (v r : ℕ) : Type 0 where
   pub loop : List ℕ
   pub size : r ≡ length loop
   pub words : BeginsWith (loopWords loop) o o′
-  pub of : (g : Graph) → Looping g n v w → (l : Loop g loop) × (l .first ≡ v)
+  pub of : (g : Graph) (n : ℕ) → Looping g n v w → (l : Loop g loop) × (l .first ≡ v)

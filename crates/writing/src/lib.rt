@@ -31,8 +31,8 @@ const LOOP: u32 = 0x8000_0000;
 const END: u32 = 0xF000_0000;
 
 // Whether `v` is in the apart set: it ends its chain or the item behind it is seen, and it is not seen itself.
-fn is_member(w: &[u32], n: usize, v: usize) -> bool
-    requires { ⌜ (usedWords ≤ length (now w)) × (n < 256) × (v < n) × Matching n (tables (now w)) ⌝ }
+fn is_member(w: &[u32], v: usize) -> bool
+    requires { ⌜ (usedWords ≤ length (now w)) × (v < 256) × (tables (now w) .next v ≤ 256) ⌝ }
     ensures { λ r. ⌜ r ≡ memberTest (tables (now (w .entry))) v ⌝ }
 {
     if bits::bit_at(w, SEEN, v) == 1 {
@@ -53,7 +53,7 @@ fn write_apart(w: &[u32], n: usize, out: &mut [u32]) -> usize
     let mut k = 0;
     let mut v = 0;
     while v < n {
-        if is_member(w, n, v) {
+        if is_member(w, v) {
             k += 1;
             out[k] = APART + v as u32;
         }
@@ -64,9 +64,9 @@ fn write_apart(w: &[u32], n: usize, out: &mut [u32]) -> usize
 }
 
 // The first episode of the chain of `v`.
-fn chain_start(w: &[u32], n: usize, v: usize) -> usize
-    requires { ⌜ ((g : Graph) × Solved g n (now w)) × (v < n) ⌝ }
-    ensures { λ r. ⌜ StartOf (now (w .entry)) n v r ⌝ }
+fn chain_start(w: &[u32], v: usize) -> usize
+    requires { ⌜ ((g : Graph) × (n : ℕ) × Solved g n (now w) × (v < n)) ⌝ }
+    ensures { λ r. ⌜ StartOf (now (w .entry)) v r ⌝ }
 {
     let mut x = v;
     let mut before = w[PREV + x] as usize;
@@ -84,7 +84,7 @@ fn hop(w: &[u32], n: usize, c: usize, b: usize) -> usize
 {
     let row = LINKS + 8 * c;
     let mut x = bits::next_new(w, row, NONE, 0);
-    while x < 256 {
+    while x < n {
         if x == b {
             return x;
         }
@@ -102,7 +102,7 @@ fn write_thread(w: &[u32], n: usize, v: usize, out: &mut [u32]) -> usize
     requires { ⌜ ((g : Graph) × Solved g n (now w) × ((th : List ℕ) → Thread g th → length th + 1 ≤ length (now out))) × (v < n) ⌝ }
     ensures { λ r. ⌜ ThreadWritten (now (w .entry)) (now (out .entry)) (now (out .exit)) n v r ⌝ }
 {
-    let mut at = chain_start(w, n, v);
+    let mut at = chain_start(w, v);
     let mut target = at;
     let mut count = 1;
     out[1] = STEP + at as u32;
@@ -130,7 +130,7 @@ fn write_threads(w: &[u32], n: usize, out: &mut [u32]) -> usize
     let mut at = 0;
     let mut v = 0;
     while v < n {
-        if is_member(w, n, v) {
+        if is_member(w, v) {
             let count = write_thread(w, n, v, &mut out[at..]);
             at += count;
         }
@@ -151,9 +151,9 @@ pub fn write_report(w: &[u32], n: usize, out: &mut [u32]) -> usize
 }
 
 // Writes the loop from `v` on, and gives its length.
-pub fn write_loop(w: &[u32], n: usize, v: usize, out: &mut [u32]) -> usize
-    requires { ⌜ ((g : Graph) × Looping g n v (now w)) × (n + 1 ≤ length (now out)) ⌝ }
-    ensures { λ r. ⌜ LoopWritten (now (w .entry)) (now (out .entry)) (now (out .exit)) n v r ⌝ }
+pub fn write_loop(w: &[u32], v: usize, out: &mut [u32]) -> usize
+    requires { ⌜ ((g : Graph) × (n : ℕ) × Looping g n v (now w) × (n + 1 ≤ length (now out))) ⌝ }
+    ensures { λ r. ⌜ LoopWritten (now (w .entry)) (now (out .entry)) (now (out .exit)) v r ⌝ }
 {
     let mut count = 1;
     out[1] = STEP + v as u32;

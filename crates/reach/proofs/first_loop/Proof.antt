@@ -15,7 +15,7 @@ abbrev μ-loop : tie.MeasureT-loop
 μ-loop w n v₀ v = n - v
 
 loop-holds : tie.Need-loop-holds Inv-loop μ-loop
-loop-holds c = omega arith
+loop-holds c = (omega arith, λ u h. absurd (omega arith))
 
 mul-bit-at : tie.Need-mul-bit-at Inv-loop μ-loop
 mul-bit-at c = omega arith

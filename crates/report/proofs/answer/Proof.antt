@@ -23,7 +23,7 @@ write-loop-requires c κs =
     let found = c .before .before .before .before in
     let at = found .before .before .before in
     let (g, ready) = start at .pre .0 in
-    ((g, looping ready (at .first-loop .ensures) (omega arith) (found .find-loop .ensures)), omega arith)
+    (g, start at .args .n, looping ready (at .first-loop .ensures) (omega arith) (found .find-loop .ensures), omega arith)
 
 same-length : tie.Need-same-length
 same-length c = search needs

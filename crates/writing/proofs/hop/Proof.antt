@@ -1,4 +1,4 @@
--- `writing::hop` meets its contract. The invariant: no link to one before `x` leads to `b`. The measure is what is left of the row.
+-- `writing::hop` meets its contract. The invariant: no link to one before `x` leads to `b`. The measure is what is left of the episodes.
 -- Assumes nothing.
 use Prim.Native.Nat.{_-_}
 use native.Mathlib.Omega.{arith}
@@ -10,7 +10,7 @@ abbrev Inv-loop : tie.InvT-loop
 Inv-loop w n c b row x₀ x = Hopping w c b x
 
 abbrev μ-loop : tie.MeasureT-loop
-μ-loop w n c b row x₀ x = 256 - x
+μ-loop w n c b row x₀ x = n - x
 
 mul-row : tie.Need-mul-row Inv-loop μ-loop
 mul-row c = omega arith

@@ -1,8 +1,9 @@
 -- `writing::is_member` meets its contract: what is read on each way out is what the test of a member asks.
 -- Assumes nothing.
 use borrow.Author.Needs.{needs}
+use mir.Facts.{fits-widen}
 use mathlib.Core.Path.{ap, _∙_}
-use Prim.Native.Nat.{ℕ, _+_}
+use Prim.Native.Nat.{ℕ}
 use native.Mathlib.Omega.{arith}
 use lib.Dec.{eqb}
 use Rattle.writing.proofs.Tests.{test-seen, test-end, test-behind}
@@ -25,10 +26,7 @@ shared-slice-read-next : tie.Need-shared-slice-read-next
 shared-slice-read-next c = search needs
 
 cast-next : tie.Need-cast-next
-cast-next c =
-    let a = c .before .before .before .before .args in
-    let h = c .shared-slice-known2 .given (4096 + a .v) in
-    omega arith
+cast-next c = fits-widen tt (c .shared-slice-known2 .given _)
 
 returns-2 : tie.Need-returns-2
 returns-2 c = let a = c .before .before .before .before .before .args in test-end (a .w .now) (a .v) (λ e. omega arith) (omega arith)
@@ -37,10 +35,7 @@ sub-bit-at : tie.Need-sub-bit-at
 sub-bit-at c = search needs
 
 bit-at-requires-2 : tie.Need-bit-at-requires-2
-bit-at-requires-2 c κs =
-    let b = c .before .before .before .before .before in
-    let h = b .pre .3 .next-le (b .args .v) (omega arith) in
-    omega arith
+bit-at-requires-2 c κs = omega arith
 
 returns-3 : tie.Need-returns-3
 returns-3 c =

@@ -3,7 +3,7 @@
 -- Assumes nothing.
 use mathlib.Core.Logic.{⊎-elim}
 use mathlib.Core.Path.{sym, _∙_}
-use Prim.Native.Nat.{_+_, _-_}
+use Prim.Native.Nat.{_-_}
 use native.Mathlib.Omega.{arith}
 use lib.ListN.{length-set}
 use Rattle.writing.proofs.Apart.{Members, apart-none, apart-more, apart-same, apart-done}
@@ -22,7 +22,9 @@ loop-holds c =
     apart-none (a .w .now) (a .out .now) (a .n) (omega arith)
 
 is-member-requires : tie.Need-is-member-requires Inv-loop μ-loop
-is-member-requires c κs = (omega arith, omega arith, omega arith, c .before .before .before .before .pre .2)
+is-member-requires c κs =
+    let h = c .before .before .before .before .pre .2 .next-le (c .before .loop .v) (omega arith) in
+    (omega arith, omega arith, omega arith)
 
 add-k : tie.Need-add-k Inv-loop μ-loop
 add-k c = omega arith
@@ -69,7 +71,7 @@ slice-write-out-2 : tie.Need-slice-write-out-2 Inv-loop μ-loop
 slice-write-out-2 c = omega arith
 
 same-length : tie.Need-same-length Inv-loop μ-loop
-same-length c = length-set (c .before .loop .out) 0 (1073741824 + c .before .loop .k) ∙ c .before .loop .inv .same-length
+same-length c = simp length-set (c .before .loop .inv .same-length)
 
 returns : tie.Need-returns Inv-loop μ-loop
 returns c =

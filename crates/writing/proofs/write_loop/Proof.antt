@@ -1,7 +1,7 @@
 -- `writing::write_loop` meets its contract. The invariant: the loop's first episodes stand behind the first word. The measure is what is
--- left of the episodes, since none is written twice.
+-- left of 256, since no episode is written twice.
 -- Assumes nothing.
-use mathlib.Core.Path.{_∙_}
+use mir.Facts.{fits-widen}
 use Prim.Native.Nat.{_+_, _-_}
 use native.Mathlib.Omega.{arith}
 use lib.ListN.{length-set}
@@ -10,10 +10,10 @@ use Rattle.writing.proofs.write_loop.Statement.{statement}
 use Rattle.writing.proofs.write_loop.Tie as tie
 
 abbrev Inv-loop : tie.InvT-loop
-Inv-loop w n v out₀ count₀ x₀ out count x = Written w out₀ out n v count x
+Inv-loop w v out₀ count₀ x₀ out count x = Written w out₀ out v count x
 
 abbrev μ-loop : tie.MeasureT-loop
-μ-loop w n v out₀ count₀ x₀ out count x = n - count
+μ-loop w v out₀ count₀ x₀ out count x = 256 - count
 
 cast-out : tie.Need-cast-out Inv-loop μ-loop
 cast-out c = omega arith
@@ -34,18 +34,15 @@ shared-slice-read-x : tie.Need-shared-slice-read-x Inv-loop μ-loop
 shared-slice-read-x c = omega arith
 
 cast-x : tie.Need-cast-x Inv-loop μ-loop
-cast-x c = let h = c .shared-slice-known .given (4096 + c .before .args .v) in omega arith
+cast-x c = fits-widen tt (c .shared-slice-known .given _)
 
 sub-x : tie.Need-sub-x Inv-loop μ-loop
 sub-x c =
-    let a = c .before .args in
-    let looping = c .before .pre .0 in
-    loop-next (a .w .now) (a .n) (a .v) looping (a .v) (looping .1 .selves-are .below) .0
+    let looping = c .before .pre .2 in
+    loop-next looping (c .before .args .v) (looping .selves-are .below) .0
 
 loop-holds : tie.Need-loop-holds Inv-loop μ-loop
-loop-holds c =
-    let a = c .before .args in
-    walk-first (a .w .now) (a .n) (a .v) (c .before .pre .0) (a .out .now) (c .before .pre .1)
+loop-holds c = walk-first (c .before .pre .2) (c .before .args .out .now) (c .before .pre .3)
 
 add-count : tie.Need-add-count Inv-loop μ-loop
 add-count c = omega arith
@@ -60,12 +57,7 @@ mul-out : tie.Need-mul-out Inv-loop μ-loop
 mul-out c = omega arith
 
 slice-write-out-2 : tie.Need-slice-write-out-2 Inv-loop μ-loop
-slice-write-out-2 c =
-    let b = c .before .before .before in
-    let a = b .args in
-    let at = c .before .loop in
-    let h = walk-room (a .w .now) (a .n) (a .v) (b .pre .0) _ (at .out) (at .count) (at .x) (at .inv) (λ e. omega arith) in
-    omega arith
+slice-write-out-2 c = let h = walk-room (c .before .loop .inv) (λ e. omega arith) in omega arith
 
 add-x-2 : tie.Need-add-x-2 Inv-loop μ-loop
 add-x-2 c = omega arith
@@ -77,29 +69,18 @@ shared-slice-read-x-2 : tie.Need-shared-slice-read-x-2 Inv-loop μ-loop
 shared-slice-read-x-2 c = omega arith
 
 cast-x-2 : tie.Need-cast-x-2 Inv-loop μ-loop
-cast-x-2 c = let h = c .shared-slice-known2 .given (4096 + c .before .before .loop .x) in omega arith
+cast-x-2 c = fits-widen tt (c .shared-slice-known2 .given _)
 
 sub-x-2 : tie.Need-sub-x-2 Inv-loop μ-loop
 sub-x-2 c =
-    let b = c .before .before .before .before in
-    let a = b .args in
     let at = c .before .before .loop in
-    loop-next (a .w .now) (a .n) (a .v) (b .pre .0) (at .x) (at .inv .below) .0
+    loop-next (at .inv .looping) (at .x) (at .inv .below) .0
 
 loop-less : tie.Need-loop-less Inv-loop μ-loop
-loop-less c =
-    let b = c .before .before .before .before in
-    let a = b .args in
-    let at = c .before .before .loop in
-    let h = walk-room (a .w .now) (a .n) (a .v) (b .pre .0) _ (at .out) (at .count) (at .x) (at .inv) (λ e. omega arith) in
-    omega arith
+loop-less c = let h = walk-room (c .before .before .loop .inv) (λ e. omega arith) in omega arith
 
 loop-again : tie.Need-loop-again Inv-loop μ-loop
-loop-again c =
-    let b = c .before .before .before .before in
-    let a = b .args in
-    let at = c .before .before .loop in
-    walk-more (a .w .now) (a .n) (a .v) (b .pre .0) _ (at .out) (at .count) (at .x) (at .inv) (λ e. omega arith)
+loop-again c = walk-more (c .before .before .loop .inv) (λ e. omega arith)
 
 cast-out-3 : tie.Need-cast-out-3 Inv-loop μ-loop
 cast-out-3 c = omega arith
@@ -111,16 +92,10 @@ slice-write-out-3 : tie.Need-slice-write-out-3 Inv-loop μ-loop
 slice-write-out-3 c = omega arith
 
 same-length : tie.Need-same-length Inv-loop μ-loop
-same-length c =
-    let a = c .before .before .before .args in
-    length-set (c .before .loop .out) 0 (2147483648 + c .before .loop .count) ∙ c .before .loop .inv .same-length
-    ∙ length-set (a .out .now) 1 (1879048192 + a .v)
+same-length c = simp length-set (simp length-set at (c .before .loop .inv .same-length))
 
 returns : tie.Need-returns Inv-loop μ-loop
-returns c =
-    let a = c .before .before .before .args in
-    let at = c .before .loop in
-    walk-done (a .w .now) (a .n) (a .v) (a .out .now) (at .out) (at .count) (at .x) (1879048192 + a .v) (at .inv) (omega arith)
+returns c = walk-done (1879048192 + c .before .before .before .args .v) (c .before .loop .inv) (omega arith)
 
 pub write-loop-spec : {M : Type 1} → statement M
 write-loop-spec =

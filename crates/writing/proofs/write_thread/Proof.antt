@@ -1,3 +1,4 @@
+use mir.Facts.{fits-widen}
 use mathlib.Core.Path.{_≡_, refl, _∙_}
 use mathlib.Core.Logic.{inl, ⊎-elim}
 use Prim.Native.Nat.{_+_, _-_, _<_}
@@ -30,19 +31,24 @@ abbrev μ-loop : tie.MeasureT-loop
 μ-loop w n v out₀ at₀ target₀ count₀ out at target count = n - count
 
 chain-start-requires : tie.Need-chain-start-requires Inv-loop μ-loop
-chain-start-requires c κs = let p = c .before .before .pre in ((p .0 .0, p .0 .1), p .1)
+chain-start-requires c κs = let p = c .before .before .pre in (p .0 .0, c .before .before .args .n, p .0 .1, p .1)
 
--- the chain's first episode is small, and there is room for it
+-- the chain's first episode is below n, so it is small, and there is room for it
+start-below : (c : tie.After-chain-start Inv-loop μ-loop) → c .chain-start .result < c .before .before .before .args .n
+start-below c =
+    let a = c .before .before .before in
+    c .chain-start .ensures .below (a .args .n) (a .pre .0 .1 .matching) (a .pre .1)
+
 start-small : (c : tie.After-chain-start Inv-loop μ-loop) → c .chain-start .result < 256
 start-small c =
     let few = c .before .before .before .pre .0 .1 .few in
-    let h = c .chain-start .ensures .below in
+    let h = start-below c in
     omega arith
 
 start-room : (c : tie.After-chain-start Inv-loop μ-loop) → 1 < length (c .before .before .before .args .out .now)
 start-room c =
     let p = c .before .before .before .pre .0 in
-    starts-room (c .before .before .before .args .out .now) (c .chain-start .ensures) (p .1) (p .2)
+    starts-room (c .before .before .before .args .out .now) (start-below c) (p .1) (p .2)
 
 cast-out : tie.Need-cast-out Inv-loop μ-loop
 cast-out c = omega (arith, start-small c)
@@ -54,7 +60,8 @@ slice-write-out : tie.Need-slice-write-out Inv-loop μ-loop
 slice-write-out c = start-room c
 
 loop-holds : tie.Need-loop-holds Inv-loop μ-loop
-loop-holds c = (filling-starts (c .before .before .before .args .out .now) (c .chain-start .ensures) (start-room c), inl refl)
+loop-holds c =
+    (filling-starts (c .before .before .before .args .out .now) (start-below c) (c .chain-start .ensures) (start-room c), inl refl)
 
 add-next : tie.Need-add-next Inv-loop μ-loop
 add-next c =
@@ -77,7 +84,7 @@ shared-slice-read-next c =
     omega arith
 
 cast-next : tie.Need-cast-next Inv-loop μ-loop
-cast-next c = omega (arith, c .shared-slice-known2 .given (4096 + c .before .before .loop .at))
+cast-next c = fits-widen tt (c .shared-slice-known2 .given _)
 
 sub-target : tie.Need-sub-target Inv-loop μ-loop
 sub-target c = omega arith

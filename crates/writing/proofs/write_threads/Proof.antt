@@ -30,7 +30,9 @@ loop-holds c = let a = c .before .before .args in bundling-none (a .w .now) (a .
 is-member-requires : tie.Need-is-member-requires Inv-loop μ-loop
 is-member-requires c κs =
     let q = c .before .before .before .before .pre .0 .1 in
-    (q .long, q .few, c .loop-test .taken, q .matching)
+    let few = q .few in
+    let h = q .matching .next-le (c .before .loop .v) (c .loop-test .taken) in
+    (q .long, omega arith, omega arith)
 
 mul-write-thread : tie.Need-mul-write-thread Inv-loop μ-loop
 mul-write-thread c =
@@ -54,7 +56,7 @@ write-thread-requires c κs =
     let p = pre .0 in
     let lt = c .before .before .before .loop-test .taken in
     let e = sym (c .before .before .is-member .ensures) ∙ c .before .if1 .taken in
-    ((p .0, p .1, bundling-fits (c .before .before .before .before .loop .inv) lt e (pre .1) (p .0) (p .1)), lt)
+    ((p .0, p .1, bundling-fits (c .before .before .before .before .loop .inv) lt e (pre .1) (p .0) (p .1)), omega arith)
 
 add-at : tie.Need-add-at Inv-loop μ-loop
 add-at c =
