@@ -3,8 +3,7 @@ use mathlib.Core.Path.{_≡_}
 use mathlib.Core.List.{List}
 use Prim.Native.Nat.{ℕ, _+_, _≤_, _<_}
 use native.Mathlib.Omega.{arith}
-use Rattle.bits.specs.Work.{viaAt, seenAt, Outside, noneAt}
-use Rattle.bits.proofs.Rows.{bit-lt}
+use Rattle.bits.specs.Work.{viaAt, Outside, noneAt}
 use Rattle.chains.specs.Items.{Matching, Searching}
 use Rattle.chains.specs.State.{tables, Pairs, Sized, PreparedIn, ShownIn, SearchedIn}
 use Rattle.bits.proofs.Frames.{outside-none, outside-then, outside-wider}
@@ -39,7 +38,6 @@ module _ (e w₀ : List ℕ) (base m tail₀ : ℕ) (z : Sized e base m) (k : Ma
       record {
         outside = all;
         item-le = omega arith;
-        bits = λ b bl. bit-lt w seenAt b;
         exhausted = λ q. exhausted-within (back z (omega arith) all) (forth z (omega arith) all) (exhausted (rw same at (s .searching)));
         found = λ l. absurd (omega arith);
       }
@@ -57,7 +55,6 @@ module _ (e w₀ : List ℕ) (base m tail₀ : ℕ) (z : Sized e base m) (k : Ma
       record {
         outside = outside-then all (h .outside);
         item-le = h .item-le;
-        bits = λ b bl. bit-lt w′ seenAt b;
         exhausted = λ q. absurd (omega arith);
         found =
             λ q.

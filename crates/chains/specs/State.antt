@@ -52,7 +52,6 @@ pub record ShownIn (w w′ : List ℕ) (base m head item tail : ℕ) : Type 0 wh
 pub record SearchedIn (w w′ : List ℕ) (base m item : ℕ) : Type 0 where
   pub outside : Outside viaAt noneAt w w′
   pub item-le : item ≤ m
-  pub bits : (b : ℕ) → b < m → bit w′ seenAt b < 2
   pub exhausted : item ≡ m → Exhausted m (Pairs base w) (tables w′)
   pub found : item < m
       → (tail : ℕ) × (tail ≤ m) × Trail m (Pairs base w) (tables w′) tail × Flipping m (Pairs base w) (tables w′) (tables w′) tail item
