@@ -1,4 +1,4 @@
--- The layout's laws and what is promised of a report call. Promises is the module to read first.
+-- What is promised of a report call, and its proof. Promises is the module to read first.
 pub mod Promises
 pub mod Asked
 pub mod Reported
@@ -6,5 +6,4 @@ pub mod Choices
 pub mod Said
 pub mod SmallLogs
 pub mod Answers
-pub mod Needs
 pub mod Calls

@@ -23,7 +23,7 @@ pub enum Outcome {
 
 // The output words that a report on `n` episodes needs.
 fn report_need(n: usize) -> usize
-    requires { ⌜ n ≤ 256 ⌝ }
+    requires { ⌜ n < 256 ⌝ }
     ensures { λ r. ⌜ r ≡ reportNeed n ⌝ }
 {
     2 + 2 * n + (n + 1) * (n + 1) / 4

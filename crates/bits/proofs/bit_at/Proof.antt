@@ -1,30 +1,26 @@
+-- `bits::bit_at` meets its contract: a shift to the right is a division by a power of two.
+-- Assumes nothing.
 use borrow.Author.Needs.{needs}
 use mathlib.Core.Path.{refl}
 use Rattle.bits.specs.Bits.{bit}
 use Rattle.bits.proofs.bit_at.Statement.{statement}
 use Rattle.bits.proofs.bit_at.Tie as tie
 
--- src/lib.rt:12:8
 add-result : tie.Need-add-result
 add-result c = search needs
 
--- src/lib.rt:12:6
 mul-result : tie.Need-mul-result
 mul-result c = search needs
 
--- src/lib.rt:12:6
 shared-slice-read-result : tie.Need-shared-slice-read-result
 shared-slice-read-result c = search needs
 
--- src/lib.rt:12:26
 cast-result : tie.Need-cast-result
 cast-result c = search needs
 
--- src/lib.rt:12:6
 shr-result : tie.Need-shr-result
 shr-result c = search needs
 
--- src/lib.rt:8:1
 returns : tie.Need-returns
 unfolding bit
 returns c = refl

@@ -1,3 +1,5 @@
+-- `bits::join_row` meets its contract. The invariant: the first `i` words are joined, and the others as they were.
+-- Assumes nothing.
 use Prim.Native.Nat.{_+_, _*_, _-_, _≤_}
 use native.Mathlib.Omega.{arith}
 use Rattle.bits.proofs.Rows.{Joining, joining-more, row-joined}
@@ -10,82 +12,63 @@ Inv-loop w₀ base a k to from i₀ w i = (i ≤ 8) × Joining w₀ w (base + 8 
 abbrev μ-loop : tie.MeasureT-loop
 μ-loop w₀ base a k to from i₀ w i = 8 - i
 
--- src/lib.rt:29:21
 mul-to : tie.Need-mul-to Inv-loop μ-loop
 mul-to c = omega arith
 
--- src/lib.rt:29:14
 add-to : tie.Need-add-to Inv-loop μ-loop
 add-to c = omega arith
 
--- src/lib.rt:30:23
 mul-from : tie.Need-mul-from Inv-loop μ-loop
 mul-from c = omega arith
 
--- src/lib.rt:30:16
 add-from : tie.Need-add-from Inv-loop μ-loop
 add-from c = omega arith
 
--- src/lib.rt:32:5
 loop-holds : tie.Need-loop-holds Inv-loop μ-loop
 loop-holds c = omega arith
 
--- src/lib.rt:33:23
 add-w : tie.Need-add-w Inv-loop μ-loop
 add-w c = omega arith
 
--- src/lib.rt:33:21
 mul-w : tie.Need-mul-w Inv-loop μ-loop
 mul-w c = omega arith
 
--- src/lib.rt:33:21
 slice-read-w : tie.Need-slice-read-w Inv-loop μ-loop
 slice-read-w c = omega arith
 
--- src/lib.rt:33:35
 add-w-2 : tie.Need-add-w-2 Inv-loop μ-loop
 add-w-2 c = omega arith
 
--- src/lib.rt:33:33
 mul-w-2 : tie.Need-mul-w-2 Inv-loop μ-loop
 mul-w-2 c = omega arith
 
--- src/lib.rt:33:33
 slice-read-w-2 : tie.Need-slice-read-w-2 Inv-loop μ-loop
 slice-read-w-2 c = omega arith
 
--- src/lib.rt:33:11
 add-w-3 : tie.Need-add-w-3 Inv-loop μ-loop
 add-w-3 c = omega arith
 
--- src/lib.rt:33:9
 mul-w-3 : tie.Need-mul-w-3 Inv-loop μ-loop
 mul-w-3 c = omega arith
 
--- src/lib.rt:33:9
 slice-write-w : tie.Need-slice-write-w Inv-loop μ-loop
 slice-write-w c = omega arith
 
--- src/lib.rt:34:9
 add-i : tie.Need-add-i Inv-loop μ-loop
 add-i c = omega arith
 
--- src/lib.rt:32:5
 loop-less : tie.Need-loop-less Inv-loop μ-loop
 loop-less c = omega arith
 
--- src/lib.rt:32:5
 loop-again : tie.Need-loop-again Inv-loop μ-loop
 loop-again c =
     let a = c .before .before .before .before .args in
     let at = c .before .before .before .loop in
     (omega arith, joining-more (a .w .now) (at .w) (a .base) (a .a) (a .k) (at .i) (omega arith) (at .inv .1) (omega arith))
 
--- src/lib.rt:25:1
 same-length : tie.Need-same-length Inv-loop μ-loop
 same-length c = omega arith
 
--- src/lib.rt:25:1
 returns : tie.Need-returns Inv-loop μ-loop
 returns c =
     let a = c .before .before .args in

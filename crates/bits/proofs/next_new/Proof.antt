@@ -1,3 +1,5 @@
+-- `bits::next_new` meets its contract. The invariant: there is no new bit before `at`.
+-- Assumes nothing.
 use Prim.Native.Nat.{_+_, _-_, _/_}
 use native.Mathlib.Omega.{arith}
 use lib.Count.{trailingZeros, trailing-le}
@@ -11,56 +13,44 @@ Inv-loop w row seen from at₀ at = NoneNew w row seen from at
 abbrev μ-loop : tie.MeasureT-loop
 μ-loop w row seen from at₀ at = 256 - at
 
--- src/lib.rt:44:5
 loop-holds : tie.Need-loop-holds Inv-loop μ-loop
 loop-holds c = record { at-least = omega arith; at-most = omega arith; passed = λ b lo hi. absurd (omega arith) }
 
--- src/lib.rt:46:21
 add-old : tie.Need-add-old Inv-loop μ-loop
 add-old c = omega arith
 
--- src/lib.rt:46:19
 mul-old : tie.Need-mul-old Inv-loop μ-loop
 mul-old c = omega arith
 
--- src/lib.rt:46:19
 shared-slice-read-old : tie.Need-shared-slice-read-old Inv-loop μ-loop
 shared-slice-read-old c = omega arith
 
--- src/lib.rt:47:23
 add-new : tie.Need-add-new Inv-loop μ-loop
 add-new c = omega arith
 
--- src/lib.rt:47:21
 mul-new : tie.Need-mul-new Inv-loop μ-loop
 mul-new c = omega arith
 
--- src/lib.rt:47:21
 shared-slice-read-new : tie.Need-shared-slice-read-new Inv-loop μ-loop
 shared-slice-read-new c = omega arith
 
--- src/lib.rt:47:50
 cast-new : tie.Need-cast-new Inv-loop μ-loop
 cast-new c = omega arith
 
--- src/lib.rt:47:19
 shr-new : tie.Need-shr-new Inv-loop μ-loop
 shr-new c = omega arith
 
--- src/lib.rt:49:25
 cast-result : tie.Need-cast-result Inv-loop μ-loop
 cast-result c =
     let a = c .before .before .before .before .before .args in
     omega (arith, trailing-le 32 (newIn (a .w .now) (a .row) (a .seen) (c .before .before .before .before .loop .at)))
 
--- src/lib.rt:49:20
 add-result : tie.Need-add-result Inv-loop μ-loop
 add-result c =
     let a = c .before .before .before .before .before .args in
     let at = c .before .before .before .before .loop in
     omega (arith, trailing-le 32 (newIn (a .w .now) (a .row) (a .seen) (at .at)), at .inv .at-most)
 
--- src/lib.rt:49:13
 returns : tie.Need-returns Inv-loop μ-loop
 returns c =
     let a = c .before .before .before .before .before .args in
@@ -71,26 +61,21 @@ returns c =
     (omega (arith, c .before .shared-slice-known2 .given (a .row + at .at / 32)))
     (omega (arith, c .before .before .shared-slice-known .given (a .seen + at .at / 32))) (omega arith) (omega arith))
 
--- src/lib.rt:51:15
 add-at : tie.Need-add-at Inv-loop μ-loop
 add-at c = omega arith
 
--- src/lib.rt:51:14
 mul-at : tie.Need-mul-at Inv-loop μ-loop
 mul-at c = omega arith
 
--- src/lib.rt:44:5
 loop-less : tie.Need-loop-less Inv-loop μ-loop
 loop-less c = omega arith
 
--- src/lib.rt:44:5
 loop-again : tie.Need-loop-again Inv-loop μ-loop
 loop-again c =
     let a = c .before .before .before .before .before .args in
     let at = c .before .before .before .before .loop in
     none-then-none (a .w .now) (a .row) (a .seen) (a .from) (at .at) (at .inv) (omega arith) (omega arith)
 
--- src/lib.rt:39:1
 returns-2 : tie.Need-returns-2 Inv-loop μ-loop
 returns-2 c =
     let a = c .before .before .args in

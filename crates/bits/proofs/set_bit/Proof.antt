@@ -1,41 +1,34 @@
+-- `bits::set_bit` meets its contract, by the law of a stored word with one bit more.
+-- Assumes nothing.
 use borrow.Author.Needs.{needs}
 use Rattle.bits.proofs.Rows.{set-bit-law}
 use Rattle.bits.proofs.set_bit.Statement.{statement}
 use Rattle.bits.proofs.set_bit.Tie as tie
 
--- src/lib.rt:20:14
 add-at : tie.Need-add-at
 add-at c = search needs
 
--- src/lib.rt:21:13
 mul-w : tie.Need-mul-w
 mul-w c = search needs
 
--- src/lib.rt:21:13
 slice-read-w : tie.Need-slice-read-w
 slice-read-w c = search needs
 
--- src/lib.rt:21:28
 cast-w : tie.Need-cast-w
 cast-w c = search needs
 
--- src/lib.rt:21:22
 shl-w : tie.Need-shl-w
 shl-w c = search needs
 
--- src/lib.rt:21:5
 mul-w-2 : tie.Need-mul-w-2
 mul-w-2 c = search needs
 
--- src/lib.rt:21:5
 slice-write-w : tie.Need-slice-write-w
 slice-write-w c = search needs
 
--- src/lib.rt:16:1
 same-length : tie.Need-same-length
 same-length c = search needs
 
--- src/lib.rt:16:1
 returns : tie.Need-returns
 returns c = let a = c .before .args in set-bit-law (a .w .now) (a .row) (a .b) (c .before .pre)
 

@@ -1,3 +1,5 @@
+-- `log::answer_of` meets its contract, case by case.
+-- Assumes nothing.
 use borrow.Author.Needs.{needs}
 use Rattle.log.proofs.answer_of.Statement.{statement}
 use Rattle.log.proofs.answer_of.Tie as tie

@@ -1,3 +1,5 @@
+-- `reach::close` meets its contract. The invariant: the ways with inner episodes below `k` are marked.
+-- Assumes nothing.
 use Prim.Native.Nat.{_-_}
 use native.Mathlib.Omega.{arith}
 use Rattle.reach.proofs.Rounds.{InClosure, closure-start, closure-round, closure-end}

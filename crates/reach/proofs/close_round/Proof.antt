@@ -1,3 +1,5 @@
+-- `reach::close_round` meets its contract. The invariant: the rows below `a` have the ways by way of `k` besides.
+-- Assumes nothing.
 use Prim.Native.Nat.{_-_}
 use native.Mathlib.Omega.{arith}
 use Rattle.reach.proofs.Rounds.{InRound, round-start, round-row, round-end}

@@ -1,3 +1,5 @@
+-- `reach::close_row` meets its contract: the row of `k` is joined into that of `a` exactly where `a` has a way to `k`.
+-- Assumes nothing.
 use native.Mathlib.Omega.{arith}
 use Rattle.reach.proofs.Rounds.{row-joined-closed, row-left-closed}
 use borrow.Author.Needs.{needs}

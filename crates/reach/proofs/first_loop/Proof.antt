@@ -1,3 +1,5 @@
+-- `reach::first_loop` meets its contract. The invariant: no episode below `v` has a way to itself.
+-- Assumes nothing.
 use mathlib.Core.Path.{_≡_}
 use Prim.Native.Nat.{ℕ, _+_, _*_, _-_, _≤_, _<_}
 use native.Mathlib.Omega.{arith}

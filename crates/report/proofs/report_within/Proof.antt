@@ -43,8 +43,7 @@ report-need-requires c κs =
     let at = c .before in
     let s = start at in
     let v = at .n .given .0 in
-    let few = passed-few (s .args .most) (s .args .log .now) (s .args .out .now) (s .args .work .now) (v .0) (v .1 .0) (passed at) (s .pre) in
-    omega arith
+    passed-few (s .args .most) (s .args .log .now) (s .args .out .now) (s .args .work .now) (v .0) (v .1 .0) (passed at) (s .pre)
 
 returns : tie.Need-returns
 returns c =

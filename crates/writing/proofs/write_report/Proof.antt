@@ -1,3 +1,5 @@
+-- `writing::write_report` meets its contract: the apart set, the threads behind it, and the end; there is room for all of them.
+-- Assumes nothing.
 use Prim.Native.Nat.{_+_, _<_}
 use borrow.Author.Needs.{needs}
 use native.Mathlib.Omega.{arith}

@@ -1,3 +1,6 @@
+-- `writing::write_thread` meets its contract. The invariant, `Filling`: what is written is a thread that ends at `at`, it holds the chain up to
+-- `target`, and `at` is `target` or has a way to it. The measure is what is left of n.
+-- Assumes nothing.
 use mir.Facts.{fits-widen}
 use mathlib.Core.Path.{_≡_, refl, _∙_}
 use mathlib.Core.Logic.{inl, ⊎-elim}

@@ -1,3 +1,5 @@
+-- `writing::write_threads` meets its contract. The invariant, `Bundling`: a thread is written for each member below `v`.
+-- Assumes nothing.
 use mathlib.Core.Path.{sym, ap, _∙_}
 use mathlib.Core.Logic.{⊎-elim}
 use Prim.Native.Nat.{_-_, _≤_}
