@@ -85,9 +85,6 @@ pub record Joining (w w′ : List ℕ) (to from i : ℕ) : Type 0 where
   pub before : (j : ℕ) → j < to → getD w′ j 0 ≡ getD w j 0
   pub behind : (j : ℕ) → to + i ≤ j → getD w′ j 0 ≡ getD w j 0
 
-pub joining-none : (w : List ℕ) (to from : ℕ) → Joining w w to from 0
-joining-none w to from = record { same-length = refl; done = λ j h. absurd (omega arith); before = λ j h. refl; behind = λ j h. refl }
-
 module _ (w w′ : List ℕ) (base a k i : ℕ) (h : i < 8) (s : Joining w w′ (base + 8 * a) (base + 8 * k) i) where
   abbrev to : ℕ
   to = base + 8 * a
@@ -177,10 +174,10 @@ module _ (w : List ℕ) (row seen at : ℕ) where
       let f : (at + i) % 32 ≡ at % 32 + i = omega arith in
       rw (e, f) (digit-shr _ (at % 32) i ∙ digit-fresh _ _ (at % 32 + i))
 
-  pub new-found : (t : ℕ) → at % 32 + t < 32 → digit newIn t ≡ 1 → (bit w row (at + t) ≡ 1) × (bit w seen (at + t) ≡ 0)
+  new-found : (t : ℕ) → at % 32 + t < 32 → digit newIn t ≡ 1 → (bit w row (at + t) ≡ 1) × (bit w seen (at + t) ≡ 0)
   new-found t h e = fresh-one _ _ (bit-lt w row (at + t)) (bit-lt w seen (at + t)) (sym (digit-new t h) ∙ e)
 
-  pub new-none : (t : ℕ) → at % 32 + t < 32 → digit newIn t ≡ 0 → bit w row (at + t) ≡ 1 → bit w seen (at + t) ≡ 1
+  new-none : (t : ℕ) → at % 32 + t < 32 → digit newIn t ≡ 0 → bit w row (at + t) ≡ 1 → bit w seen (at + t) ≡ 1
   new-none t h e = fresh-zero _ _ (bit-lt w row (at + t)) (bit-lt w seen (at + t)) (sym (digit-new t h) ∙ e)
 
   new-lt : getD w (row + at / 32) 0 < 2 ^ 32 → getD w (seen + at / 32) 0 < 2 ^ 32 → newIn < 2 ^ 32
@@ -206,7 +203,7 @@ module _ (w : List ℕ) (row seen at : ℕ) where
       }
 
   -- or none
-  pub word-passed : newIn ≡ 0 → (c : ℕ) → at ≤ c → c < (at / 32 + 1) * 32 → bit w row c ≡ 1 → bit w seen c ≡ 1
+  word-passed : newIn ≡ 0 → (c : ℕ) → at ≤ c → c < (at / 32 + 1) * 32 → bit w row c ≡ 1 → bit w seen c ≡ 1
   word-passed z c lo hi =
       let e : at + (c - at) ≡ c = omega arith in
       rw e at (new-none (c - at) (omega arith) (ap (λ (y : ℕ). digit y (c - at)) z ∙ digit-none (c - at)))

@@ -111,7 +111,7 @@ module _
           by (inr (a, la, e)) = let r = rest a la (pairs a x la h e) in (r .0, r .1, steps-snoc (r .2) e, r .3)
 
   -- the chain of an item
-  pub chain-at : (v : ℕ) → v < m → (c : List ℕ) × ChainAt m R (t .next) v c
+  chain-at : (v : ℕ) → v < m → (c : List ℕ) × ChainAt m R (t .next) v c
   chain-at v h = from (start v h)
     where
       from : (s : ℕ) × (s < m) × Steps (t .next) s v × (t .prev s ≡ 0) → (c : List ℕ) × ChainAt m R (t .next) v c
@@ -140,7 +140,7 @@ module _
                   let none : ⊥ = omega arith in
                   absurd none
 
-  pub chains-at : (vs : List ℕ) → All (λ v. v < m) vs → Chains m R (t .next) vs
+  chains-at : (vs : List ℕ) → All (λ v. v < m) vs → Chains m R (t .next) vs
   chains-at [] h = record { lists = []; same = refl; from = all-nil _; of = all-nil _ }
   chains-at (v ∷ vs) h = add (chain-at v (h v (here refl))) (chains-at vs (λ x n. h x (there n)))
     where
@@ -218,11 +218,11 @@ module _
             let r = unseen-ahead x h (omega arith) in
             (r .0, r .1, inl (r .2))
 
-    pub member-chains : Chains m R (t .next) (members t m)
+    member-chains : Chains m R (t .next) (members t m)
     member-chains = chains-at (members t m) (λ v n. member-below t m n)
 
     -- every item is on the chain of a member
-    pub on-chains : (x : ℕ) → x < m → On (member-chains .lists) x
+    on-chains : (x : ℕ) → x < m → On (member-chains .lists) x
     on-chains x h =
         let p = on-a-chain x h in
         let c = member-chains .of (p .0) (p .1) in

@@ -6,7 +6,7 @@ use native.Mathlib.Omega.{arith}
 use Rattle.bits.specs.Bits.{sum}
 use Rattle.chains.specs.Items.{Tables, Shrunk}
 
-pub sum-le : (k : ℕ) (f g : ℕ → ℕ) → ((i : ℕ) → i < k → f i ≤ g i) → sum f k ≤ sum g k
+sum-le : (k : ℕ) (f g : ℕ → ℕ) → ((i : ℕ) → i < k → f i ≤ g i) → sum f k ≤ sum g k
 unfolding sum
 sum-le zero f g h = omega arith
 sum-le (suc k) f g h = let a = h k (omega arith) in let r = sum-le k f g (λ i l. h i (omega arith)) in omega arith

@@ -140,9 +140,6 @@ module _ {g : Graph} {t : Tables} {v x : ℕ} {c : List ℕ} (w : Walking g t v 
       nodup-append c (x ∷ []) (w .once) (nodup-cons not-nil Pairwise·nil)
       (λ u m n. w .new ne (Memᴰ·cast (sym (eq-of-singleton n)) m))
 
-  pub walk-length : length c ≤ g .n
-  walk-length = nodup-below (g .n) c (w .once) (w .episodes)
-
   pub walk-short : x ≢ v → length c + 1 ≤ g .n
   walk-short ne =
       let h : length (c ++ x ∷ []) ≤ g .n = nodup-below (g .n) (c ++ x ∷ []) (walk-once ne) walk-episodes in
@@ -237,7 +234,7 @@ module _ {g : Graph} where
       go rest (inr n) = step l (rest n)
 
   -- each episode of a loop has a way to itself
-  pub loop-member-way : {c : List ℕ} → Loop g c → All (λ u. Way g u u) c
+  loop-member-way : {c : List ℕ} → Loop g c → All (λ u. Way g u u) c
   loop-member-way {c} o u m = go (mem-cases (rw (o .parts) at m))
     where
       k : Chain (Link g) (o .first ∷ o .others ++ o .first ∷ [])

@@ -3,8 +3,8 @@ use mathlib.Core.Path.{_≡_, sym, _∙_}
 use mathlib.Core.List.{List}
 use Prim.Native.Nat.{ℕ, _+_, _*_, _≤_, _<_}
 use native.Mathlib.Omega.{arith}
-use Rattle.bits.specs.Work.{nextAt, prevAt, viaAt, queueAt, seenAt, Outside, matrixWords}
-use Rattle.bits.proofs.Frames.{bit-before, bit-behind}
+use Rattle.bits.specs.Work.{nextAt, prevAt, viaAt, queueAt, Outside, matrixWords}
+use Rattle.bits.proofs.Frames.{bit-before}
 use Rattle.chains.specs.State.{tables, Pairs}
 
 module _ {lo hi : ℕ} {w w′ : List ℕ} (o : Outside lo hi w w′) where
@@ -28,6 +28,3 @@ module _ {lo hi : ℕ} {w w′ : List ℕ} (o : Outside lo hi w w′) where
 
   pub queue-behind : hi ≤ viaAt → (p : ℕ) → tables w′ .queue p ≡ tables w .queue p
   queue-behind h p = o .behind (queueAt + p) (omega arith)
-
-  pub seen-behind : hi ≤ viaAt → (b : ℕ) → tables w′ .seen b ≡ tables w .seen b
-  seen-behind h b = bit-behind o seenAt b (omega arith)

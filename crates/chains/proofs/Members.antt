@@ -55,7 +55,7 @@ rising-snoc {k = k} (IsChain·singleton a) h = IsChain·cons-cons (h a (here ref
 rising-snoc (IsChain·cons-cons r c) h = IsChain·cons-cons r (rising-snoc c (λ v m. h v (there m)))
 
 -- the members of a rising list are all different
-pub rising-nodup : {l : List ℕ} → Rising l → List·Nodup l
+rising-nodup : {l : List ℕ} → Rising l → List·Nodup l
 rising-nodup IsChain·nil = Pairwise·nil
 rising-nodup (IsChain·singleton a) = nodup-cons not-nil Pairwise·nil
 rising-nodup (IsChain·cons-cons {a = a} {b = b} {l = l} r c) =
@@ -160,31 +160,3 @@ module _ (t : Tables) where
           let f : t .next v - 1 ≡ b = omega arith in
           ap (λ (c : Bool). openBy c (t .seen (t .next v - 1))) (ne-eqb (t .next v) 0 (λ q. omega arith))
           ∙ eq-eqb (t .seen (t .next v - 1)) 1 (ap (t .seen) f ∙ s)
-
--- tables that agree in what is next and what is seen have the same members
-module _ {m : ℕ} (t t′ : Tables) (matching : Matching m t) (next-same : (a : ℕ) → a < m → t′ .next a ≡ t .next a)
-    (seen-same : (a : ℕ) → a < m → t′ .seen a ≡ t .seen a) where
-  open-same : (v : ℕ) → v < m → openTest t′ v ≡ openTest t v
-  open-same v h = go (ℕ-discrete (t .next v) 0)
-    where
-      e : t′ .next v ≡ t .next v
-      e = next-same v h
-
-      go : Dec (t .next v ≡ 0) → openTest t′ v ≡ openTest t v
-      go (yes z) =
-          ap (λ (b : Bool). openBy b (t′ .seen (t′ .next v - 1))) (eq-eqb (t′ .next v) 0 (e ∙ z))
-          ∙ sym (ap (λ (b : Bool). openBy b (t .seen (t .next v - 1))) (eq-eqb (t .next v) 0 z))
-      go (no nz) =
-          let le : t .next v ≤ m = matching .next-le v h in
-          let s : t′ .seen (t′ .next v - 1) ≡ t .seen (t .next v - 1) =
-          ap (λ (n : ℕ). t′ .seen (n - 1)) e ∙ seen-same (t .next v - 1) (omega arith) in
-          ap₂ (λ (n s : ℕ). openBy (eqb n 0) s) e s
-
-  pub test-same : (v : ℕ) → v < m → memberTest t′ v ≡ memberTest t v
-  test-same v h = ap₂ (λ (n : ℕ) (b : Bool). eqb n 0 && b) (seen-same v h) (open-same v h)
-
-  pub members-of-same : (k : ℕ) → k ≤ m → members t k ≡ members t′ k
-  unfolding members extend
-  members-of-same zero h = refl
-  members-of-same (suc k) h =
-      ap₂ (λ (b : Bool) (l : List ℕ). extend b l k) (sym (test-same k (omega arith))) (members-of-same k (omega arith))

@@ -21,7 +21,7 @@ abbrev pub Within : ℕ → (ℕ → ℕ → Type 0) → (ℕ → ℕ → Type 0
 Within m R R′ = (a b : ℕ) → a < m → b < m → R a b → R′ a b
 
 module _ {m : ℕ} {R R′ : ℕ → ℕ → Type 0} (to : Within m R R′) where
-  pub reached-within : {next : ℕ → ℕ} {b : ℕ} → Reached m R next b → Reached m R′ next b
+  reached-within : {next : ℕ → ℕ} {b : ℕ} → Reached m R next b → Reached m R′ next b
   reached-within (from-end {a = a} {b = b} al bl e r) = from-end al bl e (to a b al bl r)
   reached-within (from-next {a = a} {b = b} {c = c} al bl cl e k r) = from-next al bl cl e (reached-within k) (to a b al bl r)
 
@@ -34,7 +34,7 @@ module _ {m : ℕ} {R R′ : ℕ → ℕ → Type 0} (to : Within m R R′) wher
       }
 
   -- where the queue holds items
-  pub seen-within : (t : Tables) {tail b : ℕ} → ((p : ℕ) → p < tail → t .queue p < m) → b < m → SeenFrom R t tail b → SeenFrom R′ t tail b
+  seen-within : (t : Tables) {tail b : ℕ} → ((p : ℕ) → p < tail → t .queue p < m) → b < m → SeenFrom R t tail b → SeenFrom R′ t tail b
   seen-within t {tail} {b} queued bl (p, pl, v, r) = (p, pl, v, to (t .queue p) b (queued p pl) bl r)
 
   pub searching-within : {t : Tables} {head tail : ℕ} → Within m R′ R → Searching m R t head 0 tail → Searching m R′ t head 0 tail
@@ -46,7 +46,6 @@ module _ {m : ℕ} {R R′ : ℕ → ℕ → Type 0} (to : Within m R R′) wher
         different = s .different;
         opened = s .opened;
         all-open = s .all-open;
-        bits = s .bits;
         kept = s .kept;
         came = λ b bl h. seen-within t (s .queued) bl (s .came b bl h);
         shown = λ p b pl bl r. s .shown p b pl bl (back (t .queue p) b (s .queued p (omega (arith, s .head-le))) bl r);

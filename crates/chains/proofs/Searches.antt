@@ -92,7 +92,7 @@ matching-same k s =
           omega arith;
     }
 
-pub saw-same : {m : ℕ} {t t′ : Tables} {head b tail : ℕ} → Saw m t t′ head b tail → SameLinks m t t′
+saw-same : {m : ℕ} {t t′ : Tables} {head b tail : ℕ} → Saw m t t′ head b tail → SameLinks m t t′
 saw-same w = record { next-same = w .next-same; prev-same = w .prev-same }
 
 pub saw-matching : {m : ℕ} {t t′ : Tables} {head b tail : ℕ} → Matching m t → Saw m t t′ head b tail → Matching m t′
@@ -107,7 +107,6 @@ prepared-searching {m} {R} {t} {tail} k =
       different = λ p q pl ql e. apart p q pl ql e (decLt p q) (decLt q p);
       opened = λ p pl. inl (k .ending p pl);
       all-open = λ a al o. ⊎-elim (k .all a al) (λ s. none (s .0) (s .1) (s .3)) o;
-      bits = λ b bl. let h = k .unseen b bl in omega arith;
       kept = λ b bl h. none b bl h;
       came = λ b bl h. none b bl h;
       shown = λ p b pl bl r. absurd (omega arith);
@@ -135,7 +134,6 @@ module _ {m : ℕ} {R : ℕ → ℕ → Type 0} {t : Tables} {head from tail : �
         different = different;
         opened = λ p h. opened p h (ℕ-discrete p tail);
         all-open = all-open;
-        bits = λ c cl. bits c cl (ℕ-discrete c b);
         kept = λ c cl h. kept c cl h (ℕ-discrete c b);
         came = λ c cl h. came c cl h (ℕ-discrete c b);
         shown = λ p c h cl q. stays c cl (s .shown p c h cl (rw (w .queue-same p (omega arith)) at q));
@@ -230,10 +228,6 @@ module _ {m : ℕ} {R : ℕ → ℕ → Type 0} {t : Tables} {head from tail : �
               (tail, omega arith, omega arith)
           go c cl g sc (no nf) = let f = w .seen-other c cl nf in old (inr (c, cl, omega (arith, e), omega arith))
 
-      bits : (c : ℕ) → c < m → Dec (c ≡ b) → t′ .seen c < 2
-      bits c cl (yes e) = let h = w .seen-here in rw e (omega arith)
-      bits c cl (no ne) = let h = w .seen-other c cl ne in let f = s .bits c cl in omega arith
-
       kept : (c : ℕ) → c < m → t′ .seen c ≡ 1 → Dec (c ≡ b) → 0 < t′ .prev c
       kept c cl h (yes e) = let f = w .prev-same b bl in rw e (omega arith)
       kept c cl h (no ne) =
@@ -266,7 +260,6 @@ module _ {m : ℕ} {R : ℕ → ℕ → Type 0} {t : Tables} {head from tail : �
         different = s .different;
         opened = s .opened;
         all-open = s .all-open;
-        bits = s .bits;
         kept = s .kept;
         came = s .came;
         shown = λ p b h bl r. go p b h bl r (ℕ-discrete p head) (decLt b from);

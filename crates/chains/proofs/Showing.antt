@@ -15,7 +15,7 @@ use Rattle.chains.proofs.Relations.{Within}
 use Rattle.chains.proofs.Searches.{SameLinks, matching-same, saw-matching, saw-searching, item-done, found}
 
 -- of more items than there are
-pub saw-fewer : {m n : ℕ} {t t′ : Tables} {head b tail : ℕ} → n ≤ m → Saw m t t′ head b tail → Saw n t t′ head b tail
+saw-fewer : {m n : ℕ} {t t′ : Tables} {head b tail : ℕ} → n ≤ m → Saw m t t′ head b tail → Saw n t t′ head b tail
 saw-fewer l s =
     record {
       next-same = λ a h. s .next-same a (omega arith);
@@ -38,7 +38,7 @@ flipped-fewer l s =
     }
 
 -- the item at `head` has shown what it has up to `b`
-pub shown-to : {m : ℕ} {R : ℕ → ℕ → Type 0} {t : Tables} {head from tail b : ℕ}
+shown-to : {m : ℕ} {R : ℕ → ℕ → Type 0} {t : Tables} {head from tail b : ℕ}
     → Searching m R t head from tail → ((c : ℕ) → from ≤ c → c < b → c < m → R (t .queue head) c → t .seen c ≡ 1)
     → Searching m R t head b tail
 shown-to {m} {R} {t} {head} {from} {tail} {b} s gap =
@@ -49,7 +49,6 @@ shown-to {m} {R} {t} {head} {from} {tail} {b} s gap =
       different = s .different;
       opened = s .opened;
       all-open = s .all-open;
-      bits = s .bits;
       kept = s .kept;
       came = s .came;
       shown = s .shown;

@@ -58,7 +58,6 @@ pub record Searching (m : ℕ) (R : ℕ → ℕ → Type 0) (t : Tables) (head f
   pub opened : (p : ℕ) → p < tail
       → (t .next (t .queue p) ≡ 0) ⊎ ((b : ℕ) × (b < m) × (t .next (t .queue p) ≡ b + 1) × (t .seen b ≡ 1) × (t .via b ≤ p))
   pub all-open : (a : ℕ) → a < m → Open m t a → (p : ℕ) × (p < tail) × (t .queue p ≡ a)
-  pub bits : (b : ℕ) → b < m → t .seen b < 2
   pub kept : (b : ℕ) → b < m → t .seen b ≡ 1 → 0 < t .prev b
   pub came : (b : ℕ) → b < m → t .seen b ≡ 1 → SeenFrom R t tail b
   pub shown : (p b : ℕ) → p < head → b < m → R (t .queue p) b → t .seen b ≡ 1

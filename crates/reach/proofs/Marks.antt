@@ -51,7 +51,7 @@ marked {w} {v} {u} a b ha hb p q =
     far x y hx hy = bit-word v u (linksAt + 8 * x) y (q .words (linksAt + 8 * x + y / 32) (omega arith))
 
 -- one pair more in a matrix
-pub matrix-more : {w w′ : List ℕ} {ls : List (ℕ × ℕ)} (base a b : ℕ) → a < 256 → b < 256 → Matrix base w (λ x y. Mem (x, y) ls)
+matrix-more : {w w′ : List ℕ} {ls : List (ℕ × ℕ)} (base a b : ℕ) → a < 256 → b < 256 → Matrix base w (λ x y. Mem (x, y) ls)
     → bit w′ (base + 8 * a) b ≡ 1
     → ((x y : ℕ) → x < 256 → y < 256 → ((x ≡ a) × (y ≡ b) → ⊥) → bit w′ (base + 8 * x) y ≡ bit w (base + 8 * x) y)
     → Matrix base w′ (λ x y. Mem (x, y) (ls ++ (a, b) ∷ []))

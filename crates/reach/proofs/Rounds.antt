@@ -81,7 +81,7 @@ module _ {R : ℕ → ℕ → Type 0} {w w′ : List ℕ} {a k : ℕ} (hk : k < 
       let b : bit w (waysAt + 8 * a) y < 2 = bit-lt w (waysAt + 8 * a) y in
       omega arith
 
-  pub row-by : Matrix waysAt w′ (By R k (a + 1))
+  row-by : Matrix waysAt w′ (By R k (a + 1))
   row-by =
       record {
         sound = λ x y hx hy o. sound x y hx hy o (ℕ-discrete x a);

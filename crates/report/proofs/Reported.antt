@@ -45,10 +45,10 @@ module _ {g : Graph} {apart : List ℕ} {threads : List (List ℕ)} (few : Small
       let short : length t ≤ g .n = different-below (g .n) t (thread-different (reported .acyclic) thread) (thread .episodes) in
       (omega arith, λ v i. let h : v < g .n = thread .episodes v i in omega arith)
 
-  pub apart-read : apartOf (reportWords apart threads) ≡ apart
+  apart-read : apartOf (reportWords apart threads) ≡ apart
   apart-read = apart-of-report apart threads (omega (arith, apart-few)) apart-small threads-small
 
-  pub threads-read : threadsOf (reportWords apart threads) ≡ threads
+  threads-read : threadsOf (reportWords apart threads) ≡ threads
   threads-read = threads-of-report apart threads (omega (arith, apart-few)) apart-small threads-small
 
 -- Every report, and every loop, fits the words that the caller lends

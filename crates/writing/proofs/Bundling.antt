@@ -41,7 +41,7 @@ module _ (t : Tables) where
       rw e (omega arith)
 
   -- the members below a number are not more than those below a larger one
-  pub members-mono : (k n : ℕ) → k ≤ n → length (members t k) ≤ length (members t n)
+  members-mono : (k n : ℕ) → k ≤ n → length (members t k) ≤ length (members t n)
   members-mono k n h =
       let e : k + (n - k) ≡ n = omega arith in
       subst (λ (x : ℕ). length (members t k) ≤ length (members t x)) e (members-ahead k (n - k))
@@ -54,7 +54,7 @@ abbrev pub threadNeed : List ℕ → ℕ → ℕ
 threadNeed w n = n + 2 - length (members (tables w) n)
 
 -- a thread's words are at most so many
-pub thread-need : {g : Graph} {n : ℕ} {w : List ℕ} → Solved g n w → (th : List ℕ) → Thread g th → length th + 1 ≤ threadNeed w n
+thread-need : {g : Graph} {n : ℕ} {w : List ℕ} → Solved g n w → (th : List ℕ) → Thread g th → length th + 1 ≤ threadNeed w n
 thread-need {g} {n} {w} q th t =
     let k : length (members (tables w) n) ≤ n = members-le (tables w) n in
     let h : length th + length (members (tables w) (g .n)) ≤ g .n + 1 =

@@ -33,14 +33,14 @@ use Rattle.writing.specs.Layout.{BeginsWith, threadWords}
 use Rattle.writing.specs.Writing.{Solved, StartOf, HopTo, ThreadWritten}
 use Rattle.writing.proofs.Buffers.{length-snoc, begins-length, begins-more, begins-first, begins-second, begins-over}
 
-pub chain-snoc : {A : Type 0} {R : A → A → Type 0} {a b : A} (l : List A) → Chain R (l ++ (a ∷ [])) → R a b
+chain-snoc : {A : Type 0} {R : A → A → Type 0} {a b : A} (l : List A) → Chain R (l ++ (a ∷ [])) → R a b
     → Chain R (l ++ (a ∷ []) ++ (b ∷ []))
 chain-snoc [] c r = more r single
 chain-snoc (x ∷ []) (more q c) r = more q (chain-snoc [] c r)
 chain-snoc (x ∷ y ∷ l) (more q c) r = more q (chain-snoc (y ∷ l) c r)
 
 -- a thread goes on by a link from its last episode
-pub thread-snoc : {g : Graph} {a b : ℕ} (l : List ℕ) → Thread g (l ++ (a ∷ [])) → Link g a b → Episode g b
+thread-snoc : {g : Graph} {a b : ℕ} (l : List ℕ) → Thread g (l ++ (a ∷ [])) → Link g a b → Episode g b
     → Thread g (l ++ (a ∷ []) ++ (b ∷ []))
 thread-snoc {g} {a} {b} l t r h =
     record {

@@ -43,13 +43,13 @@ pub length-thread : (t : List ℕ) → length (threadWords t) ≡ 1 + length t
 unfolding threadWords
 length-thread t = omega (arith, length-map t (word 7))
 
-pub length-threads : (ts : List (List ℕ)) → length (threadsWords ts) ≡ length ts + totalSteps ts
+length-threads : (ts : List (List ℕ)) → length (threadsWords ts) ≡ length ts + totalSteps ts
 unfolding threadsWords totalSteps
 length-threads [] = refl
 length-threads (t ∷ ts) =
     omega (arith, length-append (threadWords t) (threadsWords ts), length-thread t, length-threads ts)
 
-pub length-ended : (ws : List ℕ) → length (ended ws) ≡ length ws + 1
+length-ended : (ws : List ℕ) → length (ended ws) ≡ length ws + 1
 unfolding ended
 length-ended ws = length-append ws (word 15 (length ws) ∷ [])
 
@@ -57,7 +57,7 @@ pub length-loop : (c : List ℕ) → length (loopWords c) ≡ 1 + length c
 unfolding loopWords
 length-loop c = omega (arith, length-map c (word 7))
 
-pub length-report : (apart : List ℕ) (threads : List (List ℕ))
+length-report : (apart : List ℕ) (threads : List (List ℕ))
     → length (reportWords apart threads) ≡ 1 + length apart + (length threads + totalSteps threads) + 1
 unfolding reportWords
 length-report apart threads =

@@ -16,7 +16,7 @@ use Rattle.writing.proofs.Buffers.{length-snoc, begins-length, begins-m
 use Rattle.writing.proofs.Bundling.{members-le, threads-need, threadNeed}
 
 -- the width, the apart set, the threads' words and the end
-pub report-room : (k n : ℕ) → k ≤ n → 1 + k + k * (n + 2 - k) + 1 ≤ reportNeed n
+report-room : (k n : ℕ) → k ≤ n → 1 + k + k * (n + 2 - k) + 1 ≤ reportNeed n
 report-room k n h =
     let p : k * (n + 1 - k) ≤ (n + 1) * (n + 1) / 4 = product-le k (n + 1) (omega arith) in
     let e : n + 2 - k ≡ 1 + (n + 1 - k) = omega arith in
