@@ -7,5 +7,6 @@ pub mod Duality
 pub mod Furthest
 pub mod Fits
 pub mod Loops
+pub mod Same
 pub mod Checker
 pub mod Worked

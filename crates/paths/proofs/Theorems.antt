@@ -12,6 +12,7 @@ use Rattle.paths.specs.Graph.{
   Graph,
   Episode,
   EndsBelow,
+  SameLinks,
   Way,
   Acyclic,
   Thread,
@@ -32,6 +33,7 @@ use Rattle.paths.proofs.Duality as Duality
 use Rattle.paths.proofs.Furthest as Furthest-one
 use Rattle.paths.proofs.Fits as Fits
 use Rattle.paths.proofs.Loops as Loops
+use Rattle.paths.proofs.Same as Same
 
 -- 1. Weak duality: an apart set has at most as many members as any cover has threads, in a graph with loops too.
 pub weak-duality : {g : Graph} (ts : List (List ℕ)) (s : List ℕ) → Cover g ts → Apart g s → length s ≤ length ts
@@ -127,3 +129,22 @@ loop-to-way = Loops.loop-way
 -- Every graph is acyclic or has a loop.
 pub acyclic-or-loop : (g : Graph) → EndsBelow g → Acyclic g ⊎ ((c : List ℕ) × Loop g c)
 acyclic-or-loop g = Loops.acyclic-or-loop
+
+-- 9. Graphs with the same episodes and the same set of links have the same ways, covers, apart sets, width, furthest sets and loops.
+pub same-ways : {g h : Graph} → SameLinks g h → (a b : ℕ) → Way g a b ↔ Way h a b
+same-ways = Same.same-ways
+
+pub same-covers : {g h : Graph} → SameLinks g h → (ts : List (List ℕ)) → Cover g ts ↔ Cover h ts
+same-covers = Same.same-covers
+
+pub same-apart : {g h : Graph} → SameLinks g h → (s : List ℕ) → Apart g s ↔ Apart h s
+same-apart = Same.same-apart
+
+pub same-width : {g h : Graph} → SameLinks g h → (k : ℕ) → Width g k ↔ Width h k
+same-width = Same.same-width
+
+pub same-furthest : {g h : Graph} → SameLinks g h → (s : List ℕ) → Furthest g s ↔ Furthest h s
+same-furthest = Same.same-furthest
+
+pub same-loops : {g h : Graph} → SameLinks g h → (c : List ℕ) → Loop g c ↔ Loop h c
+same-loops = Same.same-loops

@@ -1,7 +1,7 @@
 -- A log's graph, its threads, covers, apart sets and loops. The line above a definition says what it is in the words of the scope
 -- and, behind the colon, which term of the field that is.
 use mathlib.Core.Path.{_≡_}
-use mathlib.Core.Logic.{_⊎_}
+use mathlib.Core.Logic.{_⊎_, _↔_}
 use mathlib.Core.List.{List, [], _∷_, _++_, List·Memᴰ as Mem, List·Nodup, IsChain}
 use Prim.Native.Nat.{ℕ, _+_, _≤_, _<_}
 use lib.ListN.{length}
@@ -23,6 +23,11 @@ Link g a b = Mem (a, b) (g .links)
 -- both ends of every link are episodes
 abbrev pub EndsBelow : Graph → Type 0
 EndsBelow g = (a b : ℕ) → Link g a b → Episode g a × Episode g b
+
+-- the same episodes and the same set of links: equal but for the order and the repeats of links
+pub record SameLinks (g h : Graph) : Type 0 where
+  pub episodes : g .n ≡ h .n
+  pub links : (a b : ℕ) → Link g a b ↔ Link h a b
 
 -- `a` has a way to `b`, one or more links lead from `a` to `b`: reachability by a walk that is not empty
 pub data Way (g : Graph) : ℕ → ℕ → Type 0 where

@@ -3,10 +3,10 @@
 use mathlib.Core.Path.{_≡_, refl, sym, ap, _∙_}
 use mathlib.Core.Bool.{Bool, true, false, not, _||_}
 use mathlib.Core.List.{List, [], _∷_}
-use Prim.Native.Nat.{ℕ, _+_, _≤_}
+use Prim.Native.Nat.{ℕ, _+_, _≤_, _<_}
 use native.Mathlib.Omega.{arith}
 use lib.Dec.{leb, ltb, eqb}
-use borrow.Author.Tests.{le-leb, leb-true}
+use borrow.Author.Tests.{le-leb, lt-leb, leb-true}
 use Rattle.log.specs.Words.{kind, number}
 use Rattle.log.specs.Answer.{Answer, given, refused, question, andThen}
 use Rattle.log.specs.Log.{isFrom, isTo, toBeforeLast, headWord, groupWord, endWord, counted, onwards, questions}
@@ -46,6 +46,18 @@ module _ (m : Ceilings) (need : ℕ → ℕ → ℕ) (l : List ℕ) (out work n 
           let a : j ≡ n = ap (λ (v : ℕ × ℕ). v .0) pair in
           let b : u ≡ t = ap (λ (v : ℕ × ℕ). v .1) pair in
           (f ∙ second .1, rw (← a, ← b) (leb-true (need j u) out (first .0)), leb-true workWords work (second .0))
+
+-- where one of them is answered no, that is the refusal
+pub asked-denied : (m : Ceilings) (need : ℕ → ℕ → ℕ) (l : List ℕ) (out work q p : ℕ) → questions m l ≡ refused q p → asked m need l out work ≡ refused q p
+unfolding asked
+asked-denied m need l out work q p e = rw (e, asked)
+
+module _ (m : Ceilings) (need : ℕ → ℕ → ℕ) (l : List ℕ) (out work n t : ℕ) (e : questions m l ≡ given (n, t)) where
+  pub asked-short-output : out < need n t → asked m need l out work ≡ refused 11 (need n t)
+  asked-short-output h = asked-read m need l out work n t e ∙ rw (lt-leb (need n t) out h)
+
+  pub asked-short-work : need n t ≤ out → work < workWords → asked m need l out work ≡ refused 12 workWords
+  asked-short-work h k = asked-read m need l out work n t e ∙ rw (le-leb (need n t) out h, lt-leb workWords work k)
 
 -- the number of a refusal, and 0 of what is given
 abbrev numberOf : Answer (ℕ × ℕ) → ℕ

@@ -3,7 +3,6 @@ use mathlib.Core.Path.{_≡_, refl, sym, ap, _∙_}
 use mathlib.Core.List.{List, _++_}
 use Prim.Native.Nat.{ℕ, _≤_, _<_}
 use native.Mathlib.Omega.{arith}
-use borrow.Author.Tests.{le-leb, lt-leb}
 use lib.ListN.{length, take, drop, replicate}
 use lib.Seq.{length-take-le}
 use Rattle.log.specs.Answer.{Answer, given, refused, readAnswer}
@@ -15,11 +14,11 @@ use Rattle.bits.specs.Work.{usedWords}
 use Rattle.bits.proofs.Frames.{Cleared}
 use Rattle.reach.specs.Reach.{PassedLog, ReachedLog}
 use Rattle.writing.specs.Layout.{reportNeed}
-use Rattle.report.specs.Report.{workWords, asked, cleared, Passes, Left}
+use Rattle.report.specs.Report.{workWords, cleared, Passes, Left}
 use Rattle.report.specs.Solving.{Ready, Answered}
 use Rattle.report.specs.declared.Outcome.{Outcome}
 use Rattle.report.specs.declared.Outcome.the-variants.{Report, Loop as Looped, Refused}
-use Rattle.report.proofs.Asked.{asked-read, asked-passes}
+use Rattle.report.proofs.Asked.{asked-denied, asked-short-output, asked-short-work, asked-passes}
 use Rattle.report.proofs.Reported.{read-graph}
 
 -- what the questions answer, once the reading's case is known
@@ -28,8 +27,8 @@ told e f = sym e ∙ ap readAnswer f
 
 -- refused by 1 to 10
 pub left-denied : (m : Ceilings) (l o w : List ℕ) (q p : ℕ) → questions m l ≡ refused q p → Left m l o w o w (Refused q p)
-unfolding Left asked
-left-denied m l o w q p e = (rw (e, asked), refl, refl)
+unfolding Left
+left-denied m l o w q p e = (asked-denied m (λ j u. reportNeed j) l (length o) (length w) q p e, refl, refl)
 
 module _ (m : Ceilings) (l o w : List ℕ) (n t : ℕ) (e : questions m l ≡ given (n, t)) where
   pub passed-few : m .episodes < 256 → n < 256
@@ -41,18 +40,12 @@ module _ (m : Ceilings) (l o w : List ℕ) (n t : ℕ) (e : questions m l ≡ gi
   -- refused by 11
   pub left-short-output : (need : ℕ) → need ≡ reportNeed n → length o < need → Left m l o w o w (Refused 11 need)
   unfolding Left
-  left-short-output need f h =
-      (asked-read m (λ j u. reportNeed j) l (length o) (length w) n t e ∙ rw (lt-leb (reportNeed n) (length o) (omega arith), f), refl, refl)
+  left-short-output need f h = rw f (asked-short-output m (λ j u. reportNeed j) l (length o) (length w) n t e (omega arith), refl, refl)
 
   -- refused by 12
   pub left-short-work : reportNeed n ≤ length o → length w < workWords → Left m l o w o w (Refused 12 workWords)
   unfolding Left
-  left-short-work h k = (
-    asked-read m (λ j u. reportNeed j) l (length o) (length w) n t e
-        ∙ rw (le-leb (reportNeed n) (length o) h, lt-leb workWords (length w) k),
-    refl,
-    refl,
-  )
+  left-short-work h k = (asked-short-work m (λ j u. reportNeed j) l (length o) (length w) n t e h k, refl, refl)
 
   passes : reportNeed n ≤ length o → workWords ≤ length w → Passes m l (length o) (length w)
   passes h k =

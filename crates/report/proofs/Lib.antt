@@ -7,3 +7,4 @@ pub mod Said
 pub mod SmallLogs
 pub mod Answers
 pub mod Calls
+pub mod CopyCalls

@@ -16,18 +16,18 @@ use Rattle.paths.proofs.Theorems.{
   acyclic-no-loop,
   loop-to-way,
 }
-use Rattle.log.specs.Words.{kind, number, word}
+use Rattle.log.specs.Words.{kind, number, word, Small}
 use Rattle.log.specs.Answer.{Answer, given, refused}
 use Rattle.log.specs.Log.{questions, graphOf}
 use Rattle.log.specs.declared.Ceilings.{Ceilings}
 use Rattle.log.proofs.Words.{number-lt, kind-word, number-word}
 use Rattle.log.proofs.Laws.{graph-episodes, graph-count, links-below}
-use Rattle.writing.specs.Layout.{reportWords, loopWords, reportNeed, apartOf, threadsOf, BeginsWith}
+use Rattle.writing.specs.Layout.{reportWords, loopWords, reportNeed, SmallThread, apartOf, threadsOf, BeginsWith}
 use Rattle.report.specs.Report.{outcomeAnswer, asked, cleared, Reported, LoopShown, Passes, Left}
 use Rattle.report.specs.Accepted.{Accepted, LentEnough}
 use Rattle.report.specs.declared.Outcome.{Outcome}
 use Rattle.report.specs.declared.Outcome.the-variants.{Report, Loop as Looped, Refused}
-use Rattle.writing.proofs.Layouts.{Small, SmallThread, length-loop, report-fits-need, report-head, apart-of-report, threads-of-report}
+use Rattle.writing.proofs.Layouts.{length-loop, report-fits-need, report-head, apart-of-report, threads-of-report}
 use Rattle.report.proofs.Asked.{asked-passes, asked-given, asked-most}
 
 -- A report on a graph with few enough episodes for a word is read back from its words.

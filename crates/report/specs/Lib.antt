@@ -1,4 +1,5 @@
--- What a report call gives and leaves, and which logs are accepted.
+-- What the calls give and leave, and which logs are accepted.
 pub mod Report
 pub mod Accepted
 pub mod Solving
+pub mod Copied

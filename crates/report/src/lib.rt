@@ -1,13 +1,16 @@
-// The report on a log.
+// The library's front: the report on a log and its fair copy.
 ghost use mathlib.Core.Path.{_≡_};
 ghost use Prim.Native.Nat.{_+_, _<_, _≤_};
 ghost use lib.ListN.{length, replicate};
 ghost use Rattle.paths.specs.Graph.{Graph};
 ghost use Rattle.log.specs.Log.{service, graphOf};
 ghost use Rattle.reach.specs.Reach.{PassedLog};
-ghost use Rattle.writing.specs.Layout.{reportNeed};
+ghost use Rattle.writing.specs.Layout.{reportNeed, BeginsWith};
+ghost use Rattle.copying.specs.FairCopy.{fairWords};
+ghost use Rattle.copying.specs.Copying.{PassedWith};
 ghost use Rattle.report.specs.Report.{workWords, Left};
 ghost use Rattle.report.specs.Solving.{Ready, Answered};
+ghost use Rattle.report.specs.Copied.{CopyLeft};
 use bits::USED;
 use bits::WAYS;
 use log::Ceilings;
@@ -82,6 +85,59 @@ pub fn report(log: &[u32], out: &mut [u32], work: &mut [u32]) -> Outcome
     ensures { λ r. ⌜ Left service (now (log .entry)) (now (out .entry)) (now (work .entry)) (now (out .exit)) (now (work .exit)) r ⌝ }
 {
     report_within(
+        Ceilings {
+            episodes: 200,
+            words: 4096,
+        },
+        log,
+        out,
+        work,
+    )
+}
+
+// The outcome of a fair copy call: a copy with its count of words, or a refusal with its number and place. The words of a copy stay in the
+// lent output.
+pub enum CopyOutcome {
+    Copied(usize),
+    Refused(u32, usize),
+}
+
+// The fair copy of a log that passes, in work words of which none is left as it was.
+fn copy(log: &[u32], n: usize, out: &mut [u32], w: &mut [u32]) -> usize
+    requires { ⌜ PassedWith (now log) n × (length (fairWords (graphOf (now log))) ≤ length (now out)) × (n ≤ length (now w)) ⌝ }
+    ensures { λ r. ⌜ (r ≡ length (fairWords (graphOf (now (log .entry))))) × BeginsWith (fairWords (graphOf (now (log .entry)))) (now (out .entry)) (now (out .exit)) × (now (w .exit) ≡ replicate (length (now (w .entry))) 0) ⌝ }
+{
+    let words = copying::write_copy(log, out, &mut w[0..n]);
+    bits::clear(w);
+    words
+}
+
+// The fair copy at a caller's ceilings.
+fn fair_copy_within(most: Ceilings, log: &[u32], out: &mut [u32], work: &mut [u32]) -> CopyOutcome
+    requires { ⌜ most .episodes ≤ workWords ⌝ }
+    ensures { λ r. ⌜ CopyLeft most (now (log .entry)) (now (out .entry)) (now (work .entry)) (now (out .exit)) (now (work .exit)) r ⌝ }
+{
+    match log::read_within(most, log) {
+        Reading::Refused(number, place) => CopyOutcome::Refused(number, place),
+        Reading::Passed(n, t) => {
+            let need = 2 + 2 * t;
+            if out.len() < need {
+                return CopyOutcome::Refused(11, need);
+            }
+            let end = 16384;
+            if work.len() < end {
+                return CopyOutcome::Refused(12, end);
+            }
+            CopyOutcome::Copied(copy(log, n, out, &mut work[0..end]))
+        }
+    }
+}
+
+// The fair copy of a log, at the service's ceilings.
+pub fn fair_copy(log: &[u32], out: &mut [u32], work: &mut [u32]) -> CopyOutcome
+    ensures { λ r. ⌜ CopyLeft service (now (log .entry)) (now (out .entry)) (now (work .entry)) (now (out .exit)) (now (work .exit)) r ⌝ }
+{
+    fair_copy_within(
         Ceilings {
             episodes: 200,
             words: 4096,

@@ -15,7 +15,7 @@ use mathlib.Core.List.{
   List·Memᴰ·eq-of-singleton as eq-of-singleton,
   Memᴰ·of-map,
 }
-use Prim.Native.Nat.{ℕ, _+_, _≤_, _<_, _^_}
+use Prim.Native.Nat.{ℕ, _+_, _≤_}
 use native.Mathlib.Omega.{arith}
 use lib.ListN.{length, take, getD, length-append, length-map}
 use lib.Seq.{take-at}
@@ -24,13 +24,9 @@ use Rattle.order.specs.Order.{All}
 use Rattle.order.proofs.Lists.{all-nil, all-cons}
 use Rattle.paths.specs.Graph.{Graph, Acyclic, Cover, Apart, totalSteps}
 use Rattle.paths.proofs.Theorems.{report-fits}
-use Rattle.log.specs.Words.{kind, number, word}
+use Rattle.log.specs.Words.{kind, number, word, Small}
 use Rattle.log.proofs.Words.{kind-word, number-word}
-use Rattle.writing.specs.Layout.{threadWords, threadsWords, ended, reportWords, loopWords, reportNeed, apartOf, threadsOf}
-
--- a number that a word can hold
-abbrev pub Small : ℕ → Type 0
-Small x = x < 2 ^ 28
+use Rattle.writing.specs.Layout.{threadWords, threadsWords, ended, reportWords, loopWords, reportNeed, SmallThread, apartOf, threadsOf}
 
 -- One more thread.
 pub threads-words-snoc : (ts : List (List ℕ)) (t : List ℕ) → threadsWords (ts ++ t ∷ []) ≡ threadsWords ts ++ threadWords t
@@ -126,10 +122,6 @@ apart-of-fives (x ∷ s) rest h =
     let small : Small x = h x (here refl) in
     apart-of-five (word 5 x) (map (word 5) s ++ rest) (kind-word 5 x small)
     ∙ ap₂ (λ (y : ℕ) (r : List ℕ). y ∷ r) (number-word 5 x small) (apart-of-fives s rest (λ y m. h y (there m)))
-
--- a thread whose length and steps words can hold
-abbrev pub SmallThread : List ℕ → Type 0
-SmallThread t = Small (length t) × All Small t
 
 -- A thread's words give the thread.
 threads-of-thread : (t rest : List ℕ) → SmallThread t → threadsOf (threadWords t ++ rest) ≡ t ∷ threadsOf rest

@@ -5,7 +5,8 @@ use mathlib.Core.List.{List, [], _∷_, _++_, map}
 use Prim.Native.Nat.{ℕ, _+_, _*_, _/_, _≤_}
 use lib.Dec.{eqb}
 use lib.ListN.{length, take, drop}
-use Rattle.log.specs.Words.{kind, number, word}
+use Rattle.order.specs.Order.{All}
+use Rattle.log.specs.Words.{kind, number, word, Small}
 
 -- a thread: kind 6 with its length, then its steps as kind 7
 unfoldable pub threadWords : List ℕ → List ℕ
@@ -30,6 +31,10 @@ loopWords c = word 8 (length c) ∷ map (word 7) c
 -- the output words that a report on `n` episodes needs: 2 + 2n + q
 abbrev pub reportNeed : ℕ → ℕ
 reportNeed n = 2 + 2 * n + (n + 1) * (n + 1) / 4
+
+-- a thread whose length and steps words can hold
+abbrev pub SmallThread : List ℕ → Type 0
+SmallThread t = Small (length t) × All Small t
 
 -- the apart set in a report: the numbers of its kind 5 words
 unfoldable pub apartOf : List ℕ → List ℕ

@@ -1,0 +1,8 @@
+-- The fair copy of a log: its theorems are in FairCopies; the other modules lead to them and to the proof of the code.
+pub mod Linked
+pub mod GroupLinks
+pub mod ReadBack
+pub mod FairCopies
+pub mod Rows
+pub mod Groups
+pub mod Copies

@@ -1,0 +1,184 @@
+-- The episodes that an episode is linked to, and the words of its group.
+use mathlib.Core.Path.{_≡_, refl, _∙_, ap, sym, ap₂}
+use mathlib.Core.Logic.{_⊎_, inl, inr, ⊎-elim}
+use mathlib.Core.Bool.{Bool, true, false, _&&_, _||_, true≢false, or-true, or-assoc}
+use mathlib.Core.List.{
+  List,
+  [],
+  _∷_,
+  _++_,
+  List·Memᴰ as Mem,
+  List·Memᴰ·head as here,
+  List·Memᴰ·tail as there,
+  List·Memᴰ·not-nil as not-nil,
+  List·Memᴰ·cases-cons as mem-cases,
+  List·Memᴰ·eq-of-singleton as eq-of-singleton,
+  List·Memᴰ·append-cases as append-cases,
+  Memᴰ·append-left,
+  Memᴰ·append-right,
+  List·Nodup,
+  Pairwise·nil,
+  IsChain·nil,
+  IsChain·singleton,
+  IsChain·cons-cons,
+}
+use Prim.Native.Nat.{ℕ, zero, suc, _+_, _*_, _<_, _≤_}
+use native.Mathlib.Decide.{ℕ-discrete}
+use native.Mathlib.Numerals.{add-one}
+use native.Mathlib.Omega.{arith}
+use lib.Dec.{eqb}
+use lib.ListN.{length, length-append, length-map}
+use borrow.Author.Tests.{eqb-true, eq-eqb}
+use Rattle.order.specs.Order.{All}
+use Rattle.order.proofs.Lists.{nodup-cons}
+use Rattle.paths.specs.Graph.{Graph, Rising}
+use Rattle.paths.proofs.Numbers.{rising-first, nodup-below}
+use Rattle.log.specs.Words.{word}
+use Rattle.copying.specs.FairCopy.{linked, linkedTo, group, groups, groupLinks, fairWords}
+use Rattle.copying.specs.Copying.{groupLength}
+
+-- what a test that is made of two tests says of them
+either : (x y : Bool) → x || y ≡ true → (x ≡ true) ⊎ (y ≡ true)
+either true y e = inl refl
+either false y e = inr e
+
+both : (x y : Bool) → x && y ≡ true → (x ≡ true) × (y ≡ true)
+both true y e = (refl, e)
+both false y e = absurd (true≢false (sym e))
+
+-- `linked` tests whether the link is a member
+pub linked-mem : (a b : ℕ) (ls : List (ℕ × ℕ)) → linked a b ls ≡ true → Mem {A = ℕ × ℕ} (a, b) ls
+unfolding linked
+linked-mem a b [] e = absurd (true≢false (sym e))
+linked-mem a b (l ∷ ls) e =
+    ⊎-elim
+    (λ f.
+    let p = both (eqb a (l .0)) (eqb b (l .1)) f in
+    here (ap₂ (λ (x y : ℕ). (x, y)) (eqb-true a (l .0) (p .0)) (eqb-true b (l .1) (p .1))))
+    (λ f. there (linked-mem a b ls f))
+    (either (eqb a (l .0) && eqb b (l .1)) (linked a b ls) e)
+
+pub mem-linked : (a b : ℕ) (ls : List (ℕ × ℕ)) → Mem {A = ℕ × ℕ} (a, b) ls → linked a b ls ≡ true
+unfolding linked
+mem-linked a b [] m = absurd (not-nil m)
+mem-linked a b (l ∷ ls) m =
+    ⊎-elim
+    (λ e.
+    let from : a ≡ l .0 = ap (λ (v : ℕ × ℕ). v .0) e in
+    let to : b ≡ l .1 = ap (λ (v : ℕ × ℕ). v .1) e in
+    rw (eq-eqb a (l .0) from, eq-eqb b (l .1) to))
+    (λ n. rw (mem-linked a b ls n, or-true))
+    (mem-cases m)
+
+pub linked-append : (a b : ℕ) (xs ys : List (ℕ × ℕ)) → linked a b (xs ++ ys) ≡ linked a b xs || linked a b ys
+unfolding linked
+linked-append a b [] ys = refl
+linked-append a b (l ∷ xs) ys = rw (linked-append a b xs ys) (sym (or-assoc (eqb a (l .0) && eqb b (l .1)) (linked a b xs) (linked a b ys)))
+
+-- a rising list and a larger number behind it
+rising-snoc : {l : List ℕ} {k : ℕ} → Rising l → All (λ v. v < k) l → Rising (l ++ (k ∷ []))
+rising-snoc {k = k} IsChain·nil h = IsChain·singleton k
+rising-snoc {k = k} (IsChain·singleton a) h = IsChain·cons-cons (h a (here refl)) (IsChain·singleton k)
+rising-snoc (IsChain·cons-cons r c) h = IsChain·cons-cons r (rising-snoc c (λ v m. h v (there m)))
+
+-- the members of a rising list are all different
+rising-nodup : {l : List ℕ} → Rising l → List·Nodup l
+rising-nodup IsChain·nil = Pairwise·nil
+rising-nodup (IsChain·singleton a) = nodup-cons not-nil Pairwise·nil
+rising-nodup (IsChain·cons-cons {a = a} {b = b} {l = l} r c) =
+    nodup-cons (λ m. let h : a < a = rising-first (IsChain·cons-cons r c) m in omega arith) (rising-nodup c)
+
+module _ (a : ℕ) (ls : List (ℕ × ℕ)) where
+  -- one episode more
+  pub linkedTo-more : (b : ℕ) → linked a b ls ≡ true → linkedTo a ls (b + 1) ≡ linkedTo a ls b ++ b ∷ []
+  unfolding linkedTo
+  linkedTo-more b e = rw (add-one, linkedTo, e)
+
+  pub linkedTo-same : (b : ℕ) → linked a b ls ≡ false → linkedTo a ls (b + 1) ≡ linkedTo a ls b
+  unfolding linkedTo
+  linkedTo-same b e = rw (add-one, linkedTo, e)
+
+  -- its members are the episodes below `k` that `a` is linked to
+  pub linkedTo-mem : (b k : ℕ) → Mem b (linkedTo a ls k) → (b < k) × Mem {A = ℕ × ℕ} (a, b) ls
+  unfolding linkedTo
+  linkedTo-mem b zero m = absurd (not-nil m)
+  linkedTo-mem b (suc k) m = go (linked a k ls) refl m (linkedTo-mem b k)
+    where
+      go : (x : Bool) → linked a k ls ≡ x → Mem b (elim x [ true ↦ linkedTo a ls k ++ k ∷ [] | false ↦ linkedTo a ls k ])
+          → (Mem b (linkedTo a ls k) → (b < k) × Mem {A = ℕ × ℕ} (a, b) ls) → (b < suc k) × Mem {A = ℕ × ℕ} (a, b) ls
+      go true e m more =
+          ⊎-elim
+          (λ n. (omega (arith, more n .0), more n .1))
+          (λ n. let same = eq-of-singleton n in (omega arith, rw same (linked-mem a k ls e)))
+          (append-cases (linkedTo a ls k) m)
+      go false e m more = (omega (arith, more m .0), more m .1)
+
+  pub mem-linkedTo : (b k : ℕ) → b < k → Mem {A = ℕ × ℕ} (a, b) ls → Mem b (linkedTo a ls k)
+  unfolding linkedTo
+  mem-linkedTo b zero h m = absurd (omega arith)
+  mem-linkedTo b (suc k) h m = go (linked a k ls) refl (ℕ-discrete b k) (λ l. mem-linkedTo b k l m)
+    where
+      go : (x : Bool) → linked a k ls ≡ x → Dec (b ≡ k) → (b < k → Mem b (linkedTo a ls k))
+          → Mem b (elim x [ true ↦ linkedTo a ls k ++ k ∷ [] | false ↦ linkedTo a ls k ])
+      go true e (yes f) more = Memᴰ·append-right (linkedTo a ls k) (here f)
+      go true e (no f) more = Memᴰ·append-left (k ∷ []) (more (omega arith))
+      go false e (yes f) more = absurd (true≢false (sym (mem-linked a k ls (rw f at m)) ∙ e))
+      go false e (no f) more = more (omega arith)
+
+  pub linkedTo-below : (k : ℕ) → All (λ b. b < k) (linkedTo a ls k)
+  linkedTo-below k b m = linkedTo-mem b k m .0
+
+  -- they rise, so none is there twice, and there are at most `k`
+  pub linkedTo-rising : (k : ℕ) → Rising (linkedTo a ls k)
+  unfolding linkedTo
+  linkedTo-rising zero = IsChain·nil
+  linkedTo-rising (suc k) = go (linked a k ls) (linkedTo-rising k)
+    where
+      go : (x : Bool) → Rising (linkedTo a ls k) → Rising (elim x [ true ↦ linkedTo a ls k ++ k ∷ [] | false ↦ linkedTo a ls k ])
+      go true r = rising-snoc r (linkedTo-below k)
+      go false r = r
+
+  pub linkedTo-nodup : (k : ℕ) → List·Nodup (linkedTo a ls k)
+  linkedTo-nodup k = rising-nodup (linkedTo-rising k)
+
+  pub length-linkedTo : (k : ℕ) → length (linkedTo a ls k) ≤ k
+  length-linkedTo k = nodup-below k (linkedTo a ls k) (linkedTo-nodup k) (linkedTo-below k)
+
+-- a group that is not empty has a from word, and a to word for each link
+pub length-group : (a : ℕ) (bs : List ℕ) → length (group a bs) ≡ groupLength (length bs)
+unfolding group
+length-group a [] = refl
+length-group a (b ∷ bs) = omega (arith, length-map bs (word 3))
+
+pub length-group-le : (a : ℕ) (bs : List ℕ) → length (group a bs) ≤ 2 * length bs
+unfolding group
+length-group-le a [] = omega arith
+length-group-le a (b ∷ bs) = omega (arith, length-map bs (word 3))
+
+module _ (g : Graph) where
+  pub groups-more : (a : ℕ) → groups g (a + 1) ≡ groups g a ++ group a (linkedTo a (g .links) (g .n))
+  unfolding groups
+  groups-more a = rw (add-one, groups)
+
+  length-next : (a : ℕ) → length (groups g (suc a)) ≡ length (groups g a) + length (group a (linkedTo a (g .links) (g .n)))
+  unfolding groups
+  length-next a = length-append (groups g a) (group a (linkedTo a (g .links) (g .n)))
+
+  -- the groups of fewer episodes have no more words
+  pub length-groups-le : (a k : ℕ) → a ≤ k → length (groups g a) ≤ length (groups g k)
+  length-groups-le a zero h = let none : a ≡ 0 = omega arith in rw none (omega arith)
+  length-groups-le a (suc k) h = go (ℕ-discrete a (suc k)) (length-groups-le a k)
+    where
+      go : Dec (a ≡ suc k) → (a ≤ k → length (groups g a) ≤ length (groups g k)) → length (groups g a) ≤ length (groups g (suc k))
+      go (yes e) more = rw e (omega arith)
+      go (no e) more = omega (arith, more (omega arith), length-next k)
+
+  -- the head, the groups and the end
+  pub length-fair : length (fairWords g) ≡ 1 + length (groups g (g .n)) + 1
+  unfolding fairWords
+  length-fair = omega (arith, length-append (groups g (g .n)) (word 15 (length (groupLinks g (g .n))) ∷ []))
+
+  -- where the group of `a` goes, there is room for it, and for the end behind it
+  pub group-room : (a : ℕ) → a < g .n
+      → 1 + length (groups g a) + length (group a (linkedTo a (g .links) (g .n))) < length (fairWords g)
+  group-room a h = omega (arith, length-fair, length-next a, length-groups-le (suc a) (g .n) (omega arith))

@@ -1,0 +1,55 @@
+-- What the steps to a fair copy leave.
+use mathlib.Core.Path.{_≡_}
+use mathlib.Core.Logic.{_≢_}
+use mathlib.Core.Bool.{Bool, true, false}
+use mathlib.Core.List.{List, [], _∷_, _++_}
+use Prim.Native.Nat.{ℕ, zero, suc, _+_, _<_}
+use lib.Dec.{eqb}
+use lib.ListN.{length, getD, set}
+use Rattle.paths.specs.Graph.{Graph}
+use Rattle.log.specs.Words.{kind, number}
+use Rattle.log.specs.Answer.{given}
+use Rattle.log.specs.Log.{questions}
+use Rattle.log.specs.declared.Ceilings.{Ceilings}
+use Rattle.copying.specs.FairCopy.{linked, group, groups, groupLinks}
+use Rattle.writing.specs.Layout.{BeginsWith}
+
+-- the log passes questions 1 to 10 with `n` episodes, at some ceilings
+abbrev pub PassedWith : List ℕ → ℕ → Type 0
+PassedWith l n = (m : Ceilings) × (t : ℕ) × (questions m l ≡ given (n, t))
+
+-- 1 where the link is there, 0 where it is not
+abbrev pub mark : Bool → ℕ
+mark true = 1
+mark false = 0
+
+-- the row holds the mark of each link from `a`
+abbrev pub Marks : ℕ → List (ℕ × ℕ) → List ℕ → Type 0
+Marks a ls row = (b : ℕ) → b < length row → getD row b 0 ≡ mark (linked a b ls)
+
+-- the word `x` between head and end is taken for the row of `a`: `from` becomes `r`
+pub record WordTaken (x from a r : ℕ) (row row′ : List ℕ) : Type 0 where
+  pub of-from : kind x ≡ 2 → (r ≡ number x) × (row′ ≡ row)
+  pub of-to : kind x ≢ 2 → from ≡ a → (r ≡ from) × (row′ ≡ set row (number x) 1)
+  pub of-other : kind x ≢ 2 → from ≢ a → (r ≡ from) × (row′ ≡ row)
+
+-- the numbers below `k` that are marked in the row, rising
+unfoldable pub marked : List ℕ → ℕ → List ℕ
+marked row zero = []
+marked row (suc b) = elim (eqb (getD row b 0) 0) [ true ↦ marked row b | false ↦ marked row b ++ b ∷ [] ]
+
+-- how many words a group of `k` links has
+abbrev pub groupLength : ℕ → ℕ
+groupLength zero = 0
+groupLength (suc k) = k + 2
+
+-- the group of `a` with the links to `bs` is written; `r` counts them
+pub record GroupWritten (a : ℕ) (bs o o′ : List ℕ) (r : ℕ) : Type 0 where
+  pub count : r ≡ length bs
+  pub words : BeginsWith (group a bs) o o′
+
+-- behind the first word the groups of all episodes are written: `words` and `links` count them
+pub record GroupsWritten (g : Graph) (o o′ : List ℕ) (words links : ℕ) : Type 0 where
+  pub count : words ≡ 1 + length (groups g (g .n))
+  pub link-count : links ≡ length (groupLinks g (g .n))
+  pub begins : BeginsWith (getD o 0 0 ∷ groups g (g .n)) o o′

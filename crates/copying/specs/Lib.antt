@@ -1,0 +1,3 @@
+-- The fair copy of a log, and what the steps to it leave.
+pub mod FairCopy
+pub mod Copying

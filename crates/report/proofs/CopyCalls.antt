@@ -1,0 +1,61 @@
+-- A fair copy call by what its questions answer: from each answer to what the call leaves.
+use mathlib.Core.Path.{_≡_, refl, sym, ap, _∙_}
+use mathlib.Core.List.{List, _++_}
+use Prim.Native.Nat.{ℕ, _-_, _^_, _≤_, _<_}
+use native.Mathlib.Omega.{arith}
+use lib.ListN.{length, getD, take, drop, replicate, length-append, length-drop}
+use lib.Seq.{length-take-le}
+use Rattle.log.specs.Answer.{given, refused}
+use Rattle.log.specs.Log.{questions, graphOf}
+use Rattle.log.specs.declared.Ceilings.{Ceilings}
+use Rattle.log.proofs.Words.{number-lt}
+use Rattle.log.proofs.Laws.{well-formed, graph-count}
+use Rattle.writing.specs.Layout.{BeginsWith}
+use Rattle.copying.specs.FairCopy.{fairWords, fairNeed}
+use Rattle.report.specs.Report.{workWords, cleared}
+use Rattle.report.specs.Copied.{CopyLeft}
+use Rattle.report.specs.declared.CopyOutcome.the-variants.{Copied, Refused}
+use Rattle.report.proofs.Asked.{asked-denied, asked-short-output, asked-short-work, asked-passes}
+use Rattle.report.proofs.Reported.{read-graph}
+
+-- the count of to words is the number of a word
+pub words-few : (m : Ceilings) (l : List ℕ) (n t : ℕ) → questions m l ≡ given (n, t) → t < 2 ^ 28
+words-few m l n t e = rw (well-formed m l n t e .end-number) at (number-lt (getD l (length l - 1) 0))
+
+-- refused by 1 to 10
+pub copy-denied : (m : Ceilings) (l o w : List ℕ) (q p : ℕ) → questions m l ≡ refused q p → CopyLeft m l o w o w (Refused q p)
+unfolding CopyLeft
+copy-denied m l o w q p e = (asked-denied m (λ j u. fairNeed u) l (length o) (length w) q p e, refl, refl)
+
+module _ (m : Ceilings) (l o w : List ℕ) (n t : ℕ) (e : questions m l ≡ given (n, t)) where
+  -- refused by 11
+  pub copy-short-output : length o < fairNeed t → CopyLeft m l o w o w (Refused 11 (fairNeed t))
+  unfolding CopyLeft
+  copy-short-output h = (asked-short-output m (λ j u. fairNeed u) l (length o) (length w) n t e h, refl, refl)
+
+  -- refused by 12
+  pub copy-short-work : fairNeed t ≤ length o → length w < workWords → CopyLeft m l o w o w (Refused 12 workWords)
+  unfolding CopyLeft
+  copy-short-work h k = (asked-short-work m (λ j u. fairNeed u) l (length o) (length w) n t e h k, refl, refl)
+
+  -- copied
+  pub copy-left : (o′ : List ℕ) {w′ : List ℕ} {c : ℕ} → fairNeed t ≤ length o → workWords ≤ length w → c ≡ length (fairWords (graphOf l))
+      → BeginsWith (fairWords (graphOf l)) o o′ → w′ ≡ cleared w → CopyLeft m l o w o′ w′ (Copied c)
+  unfolding CopyLeft
+  copy-left o′ h k count begins clean = (
+    asked-passes m (λ j u. fairNeed u) l (length o) (length w) (graphOf l .n) (length (graphOf l .links)) (read-graph m l n t e)
+        (rw (graph-count m l n t e) h) k,
+    sym count,
+    begins,
+    clean,
+  )
+
+-- the row is lent from the work words, and then all of them are made zero
+pub all-cleared : (w part : List ℕ) {w′ : List ℕ} (n : ℕ) → n ≤ length w → length part ≡ length (take (n - 0) w)
+    → w′ ≡ replicate (length (part ++ drop (n - 0) w)) 0 → w′ ≡ replicate (length w) 0
+all-cleared w part n h e f =
+    let all : n - 0 ≡ n = omega arith in
+    let row : length part ≡ n = e ∙ rw all (length-take-le n w h) in
+    let rest : length (drop (n - 0) w) ≡ length w - (n - 0) = length-drop (n - 0) w in
+    let same : length (part ++ drop (n - 0) w) ≡ length w = length-append part (drop (n - 0) w) ∙ omega arith in
+    f ∙ ap (λ (k : ℕ). replicate k 0) same
