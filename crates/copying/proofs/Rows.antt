@@ -1,22 +1,21 @@
--- The row of an episode: its marks word by word of the log, and the links that are marked in it.
-use mathlib.Core.Path.{_≡_, refl, sym, ap, _∙_}
+-- The rows of a block of episodes: their marks word by word of the log, and the links that are marked in a row.
+use mathlib.Core.Path.{_≡_, refl, ap, ap₂, _∙_}
 use mathlib.Core.Logic.{_≢_, ⊎-elim}
 use mathlib.Core.Bool.{Bool, true, false, _&&_, _||_, or-false, or-true}
 use mathlib.Core.List.{List, [], _∷_, _++_}
-use Prim.Native.Nat.{ℕ, zero, suc, _+_, _-_, _≤_, _<_}
+use Prim.Native.Nat.{ℕ, zero, suc, _+_, _-_, _/_, _%_, _≤_, _<_}
 use native.Mathlib.Decide.{ℕ-discrete}
-use native.Mathlib.Numerals.{add-one}
 use native.Mathlib.Omega.{arith}
 use lib.Dec.{eqb}
-use lib.ListN.{length, getD, set, replicate, length-set, length-replicate, getD-replicate}
-use lib.Seq.{getD-set-same, getD-set-other}
+use lib.ListN.{length, getD, set, take, drop, replicate, length-set, length-drop, length-replicate, getD-replicate}
+use lib.Seq.{length-take-le, getD-set-same, getD-set-other, getD-take, getD-drop}
 use borrow.Author.Tests.{eq-eqb, ne-eqb}
 use Rattle.log.specs.Words.{kind, number}
 use Rattle.log.specs.Log.{graphOf}
 use Rattle.log.proofs.Links.{linksBefore, nearestFrom}
 use Rattle.log.proofs.Laws.{well-formed, before-head, pass-from, pass-to, links-passed}
 use Rattle.copying.specs.FairCopy.{linked, linkedTo}
-use Rattle.copying.specs.Copying.{PassedWith, mark, Marks, WordTaken, marked}
+use Rattle.copying.specs.Copying.{PassedWith, mark, Marks, blockWords, rowAt, BlockMarks, WordTaken, marked}
 use Rattle.copying.proofs.Linked.{linked-append}
 
 -- one link more, from `a` or from another episode
@@ -24,69 +23,78 @@ linked-one : (a b f x : ℕ) (ls : List (ℕ × ℕ)) → linked a b (ls ++ (f, 
 unfolding linked
 linked-one a b f x ls = linked-append a b ls ((f, x) ∷ []) ∙ rw or-false
 
-marks-none : (a n : ℕ) (row : List ℕ) → row ≡ replicate n 0 → Marks a [] row
+-- words that are zero mark no link
+marks-none : (block n : ℕ) (w : List ℕ) → w ≡ replicate (length w) 0 → n ≤ 256 → length w ≡ blockWords → BlockMarks block n [] w
 unfolding linked
-marks-none a n row e b h =
-    let l : length row ≡ n = ap length e ∙ length-replicate n 0 in
-    rw e (getD-replicate n b 0 0 (omega arith))
+marks-none block n w e few long a b h l = rw e (getD-replicate (length w) (rowAt a + b) 0 0 (omega arith))
 
-marks-here : (a x : ℕ) (ls : List (ℕ × ℕ)) (row : List ℕ) → x < length row → Marks a ls row → Marks a (ls ++ (a, x) ∷ []) (set row x 1)
-marks-here a x ls row h m b l = rw (linked-one a b a x ls, eq-eqb a a refl) (go (ℕ-discrete b x))
+-- a link from an episode of the block is marked in its row
+marks-here : (block n f x : ℕ) (ls : List (ℕ × ℕ)) (w : List ℕ) → n ≤ 256 → x < 256 → length w ≡ blockWords → f / 64 ≡ block
+    → BlockMarks block n ls w → BlockMarks block n (ls ++ (f, x) ∷ []) (set w (rowAt f + x) 1)
+marks-here block n f x ls w few hx long hf m a b h l = rw (linked-one a b f x ls) (go (ℕ-discrete a f) (ℕ-discrete b x))
   where
-    go : Dec (b ≡ x) → getD (set row x 1) b 0 ≡ mark (linked a b ls || eqb b x)
-    go (yes e) = rw (e, eq-eqb x x refl, or-true) (getD-set-same row x 1 0 h)
-    go (no ne) = rw (ne-eqb b x ne, or-false) (getD-set-other row x b 1 0 ne ∙ m b (rw (length-set row x 1) at l))
+    other : rowAt a + b ≢ rowAt f + x → eqb a f && eqb b x ≡ false → getD (set w (rowAt f + x) 1) (rowAt a + b) 0 ≡ mark (linked a b ls || (eqb a f && eqb b x))
+    other ne e = rw (e, or-false) (getD-set-other w (rowAt f + x) (rowAt a + b) 1 0 ne ∙ m a b h l)
 
-marks-other : (a f x : ℕ) (ls : List (ℕ × ℕ)) (row : List ℕ) → f ≢ a → Marks a ls row → Marks a (ls ++ (f, x) ∷ []) row
-marks-other a f x ls row ne m b l = rw (linked-one a b f x ls, ne-eqb a f (λ e. ne (sym e)), or-false) (m b l)
+    go : Dec (a ≡ f) → Dec (b ≡ x) → getD (set w (rowAt f + x) 1) (rowAt a + b) 0 ≡ mark (linked a b ls || (eqb a f && eqb b x))
+    go (yes e) (yes d) =
+        let place : rowAt a + b ≡ rowAt f + x = ap₂ (λ (y z : ℕ). rowAt y + z) e d in
+        rw (place, eq-eqb a f e, eq-eqb b x d, or-true) (getD-set-same w (rowAt f + x) 1 0 (omega arith))
+    go (no ne) d = other (λ q. ne (omega arith)) (rw (ne-eqb a f ne))
+    go (yes e) (no ne) = other (λ q. ne (omega arith)) (rw (eq-eqb a f e, ne-eqb b x ne))
 
--- at place `p` the row marks the links from `a` of the words before it, and `from` is the nearest from word's number
-pub record Marking (l row row′ : List ℕ) (a from p : ℕ) : Type 0 where
+-- a link from another episode is not marked
+marks-other : (block n f x : ℕ) (ls : List (ℕ × ℕ)) (w : List ℕ) → f / 64 ≢ block → BlockMarks block n ls w → BlockMarks block n (ls ++ (f, x) ∷ []) w
+marks-other block n f x ls w ne m a b h l = rw (linked-one a b f x ls, ne-eqb a f (λ e. ne (omega arith)), or-false) (m a b h l)
+
+-- at place `p` the block marks the links of the words before it, and `from` is the nearest from word's number
+pub record Marking (l w w′ : List ℕ) (n block from p : ℕ) : Type 0 where
   pub behind : 0 < p
   pub within : p < length l
-  pub same-length : length row′ ≡ length row
-  pub marks : Marks a (linksBefore l p) row′
+  pub same-length : length w′ ≡ length w
+  pub marks : BlockMarks block n (linksBefore l p) w′
   pub nearest : 1 < p → from ≡ nearestFrom l p
 
-pub marking-start : (l row : List ℕ) (a : ℕ) → PassedWith l (length row) → row ≡ replicate (length row) 0 → Marking l row row a 0 1
-marking-start l row a (m, t, e) zeros =
-    let long : 2 ≤ length l = well-formed m l (length row) t e .long in
+pub marking-start : (l w : List ℕ) (n block : ℕ) → PassedWith l n → n ≤ 256 → length w ≡ blockWords → w ≡ replicate (length w) 0
+    → Marking l w w n block 0 1
+marking-start l w n block (m, t, e) few long zeros =
+    let two : 2 ≤ length l = well-formed m l n t e .long in
     let none : linksBefore l 1 ≡ [] = before-head l (omega arith) in
     record {
       behind = omega arith;
       within = omega arith;
       same-length = refl;
-      marks = rw none (marks-none a (length row) row zeros);
+      marks = rw none (marks-none block n w zeros few long);
       nearest = λ h. absurd (omega arith);
     }
 
 -- what holds of the word at a place between head and end
-module _ (l row row′ : List ℕ) (a from p : ℕ) (passed : PassedWith l (length row)) (s : Marking l row row′ a from p) (inner : p + 1 < length l) where
+module _ (l w w′ : List ℕ) (n block from p : ℕ) (passed : PassedWith l n) (few : n ≤ 256) (s : Marking l w w′ n block from p)
+    (inner : p + 1 < length l) where
   -- its number is an episode's
-  pub number-below : number (getD l p 0) < length row′
+  pub number-below : number (getD l p 0) < 256
   number-below =
       let (m, t, e) = passed in
-      let same : length row′ ≡ length row = s .same-length in
-      let b : number (getD l p 0) < length row = well-formed m l (length row) t e .below p (s .behind) inner in
+      let b : number (getD l p 0) < n = well-formed m l n t e .below p (s .behind) inner in
       omega arith
 
   is-to : kind (getD l p 0) ≢ 2 → kind (getD l p 0) ≡ 3
   is-to other =
       let (m, t, e) = passed in
-      ⊎-elim (λ k. absurd (other k)) (λ k. k) (well-formed m l (length row) t e .between p (s .behind) inner)
+      ⊎-elim (λ k. absurd (other k)) (λ k. k) (well-formed m l n t e .between p (s .behind) inner)
 
   -- a to word is not the first word behind the head
   later : kind (getD l p 0) ≢ 2 → 1 < p
   later other = go (ℕ-discrete p 1)
     where
       go : Dec (p ≡ 1) → 1 < p
-      go (yes e) = let (m, t, q) = passed in absurd (other (rw e (well-formed m l (length row) t q .starts (omega arith))))
+      go (yes e) = let (m, t, q) = passed in absurd (other (rw e (well-formed m l n t q .starts (omega arith))))
       go (no ne) = omega (arith, s .behind)
 
-  pub marking-on : {r : ℕ} {row″ : List ℕ} → WordTaken (getD l p 0) from a r row′ row″ → Marking l row row″ a r (p + 1)
-  marking-on {r} {row″} d = go (ℕ-discrete (kind (getD l p 0)) 2) (ℕ-discrete from a)
+  pub marking-on : length w ≡ blockWords → {r : ℕ} {w″ : List ℕ} → WordTaken (getD l p 0) from block r w′ w″ → Marking l w w″ n block r (p + 1)
+  marking-on long {r} {w″} d = go (ℕ-discrete (kind (getD l p 0)) 2) (ℕ-discrete (from / 64) block)
     where
-      go : Dec (kind (getD l p 0) ≡ 2) → Dec (from ≡ a) → Marking l row row″ a r (p + 1)
+      go : Dec (kind (getD l p 0) ≡ 2) → Dec (from / 64 ≡ block) → Marking l w w″ n block r (p + 1)
       go (yes k) same =
           let (links, near) = pass-from l p (s .behind) (s .within) k in
           let (new, kept) = d .of-from k in
@@ -101,12 +109,13 @@ module _ (l row row′ : List ℕ) (a from p : ℕ) (passed : PassedWith l (leng
           let (more, near) = pass-to l p (s .behind) (s .within) (is-to k) in
           let is-nearest = s .nearest (later k) in
           let (kept, new) = d .of-to k same in
-          let is-a : nearestFrom l p ≡ a = cc in
           record {
             behind = omega arith;
             within = inner;
-            same-length = rw (new, length-set row′ (number (getD l p 0)) 1) (s .same-length);
-            marks = rw (more, is-a, new) (marks-here a (number (getD l p 0)) (linksBefore l p) row′ number-below (s .marks));
+            same-length = rw (new, length-set w′ (rowAt from + number (getD l p 0)) 1) (s .same-length);
+            marks =
+                rw (more, ← is-nearest, new)
+                (marks-here block n from (number (getD l p 0)) (linksBefore l p) w′ few number-below (s .same-length ∙ long) same (s .marks));
             nearest = λ h. cc;
           }
       go (no k) (no other) =
@@ -117,16 +126,16 @@ module _ (l row row′ : List ℕ) (a from p : ℕ) (passed : PassedWith l (leng
             behind = omega arith;
             within = inner;
             same-length = rw same (s .same-length);
-            marks = rw (more, ← is-nearest, same) (marks-other a from (number (getD l p 0)) (linksBefore l p) row′ other (s .marks));
+            marks = rw (more, ← is-nearest, same) (marks-other block n from (number (getD l p 0)) (linksBefore l p) w′ other (s .marks));
             nearest = λ h. cc;
           }
 
--- at the last word the row marks the links of the log
-pub marking-end : (l row row′ : List ℕ) (a from p : ℕ) → PassedWith l (length row) → Marking l row row′ a from p → length l ≤ p + 1
-    → (length row′ ≡ length row) × Marks a (graphOf l .links) row′
-marking-end l row row′ a from p (m, t, e) s h =
+-- at the last word the block marks the links of the log
+pub marking-end : (l w w′ : List ℕ) (n block from p : ℕ) → PassedWith l n → Marking l w w′ n block from p → length l ≤ p + 1
+    → BlockMarks block n (graphOf l .links) w′
+marking-end l w w′ n block from p (m, t, e) s h =
     let last : p ≡ length l - 1 = omega (arith, s .within) in
-    (s .same-length, rw (links-passed m l (length row) t e) at (rw last at (s .marks)))
+    rw (links-passed m l n t e) at (rw last at (s .marks))
 
 -- what is marked is what `a` is linked to
 pub marked-linked : (a : ℕ) (ls : List (ℕ × ℕ)) (row : List ℕ) (k : ℕ) → k ≤ length row → Marks a ls row → marked row k ≡ linkedTo a ls k
@@ -142,17 +151,32 @@ marked-linked a ls row (suc b) h m = go (linked a b ls) refl (marked-linked a ls
         let here : getD row b 0 ≡ 0 = m b (omega arith) ∙ ap mark e in
         rw (marked, linkedTo, here, e) rest
 
--- the row is cleared before it is marked
-pub cleared-row : (l row row₁ : List ℕ) → PassedWith l (length row) → row₁ ≡ replicate (length row) 0
-    → PassedWith l (length row₁) × (row₁ ≡ replicate (length row₁) 0)
-cleared-row l row row₁ passed e =
-    let same : length row₁ ≡ length row = ap length e ∙ length-replicate (length row) 0 in
-    (rw same passed, rw same e)
+-- the row of `a` in its block, as it is lent
+abbrev pub rowOf : ℕ → ℕ → List ℕ → List ℕ
+rowOf a n w = take (rowAt a + n - rowAt a) (drop (rowAt a) w)
 
--- what is marked in the row then
-pub marked-row : (l row row₁ row₂ : List ℕ) (a : ℕ) → row₁ ≡ replicate (length row) 0
-    → (length row₂ ≡ length row₁) × Marks a (graphOf l .links) row₂
-    → (length row₂ ≡ length row) × (marked row₂ (length row₂) ≡ linkedTo a (graphOf l .links) (length row))
-marked-row l row row₁ row₂ a e (kept, marks) =
-    let same : length row₂ ≡ length row = kept ∙ ap length e ∙ length-replicate (length row) 0 in
-    (same, marked-linked a (graphOf l .links) row₂ (length row₂) (omega arith) marks ∙ ap (linkedTo a (graphOf l .links)) same)
+pub row-marks : (a n : ℕ) (ls : List (ℕ × ℕ)) (w : List ℕ) → n ≤ 256 → length w ≡ blockWords → BlockMarks (a / 64) n ls w
+    → (length (rowOf a n w) ≡ n) × (marked (rowOf a n w) (length (rowOf a n w)) ≡ linkedTo a ls n)
+row-marks a n ls w few long m =
+    let rest : length (drop (rowAt a) w) ≡ length w - rowAt a = length-drop (rowAt a) w in
+    let size : length (rowOf a n w) ≡ n = length-take-le (rowAt a + n - rowAt a) (drop (rowAt a) w) (omega arith) ∙ omega arith in (
+      size,
+      marked-linked a ls (rowOf a n w) (length (rowOf a n w)) (omega arith)
+          (λ b h. getD-take (rowAt a + n - rowAt a) (drop (rowAt a) w) b 0 (omega arith) ∙ getD-drop (rowAt a) w b 0 ∙ m a b refl (omega arith))
+          ∙ ap (linkedTo a ls) size,
+    )
+
+-- words that have been made zero
+pub cleared-block : (w w₁ : List ℕ) → length w ≡ blockWords → w₁ ≡ replicate (length w) 0
+    → (length w₁ ≡ blockWords) × (w₁ ≡ replicate (length w₁) 0)
+cleared-block w w₁ long e =
+    let same : length w₁ ≡ length w = ap length e ∙ length-replicate (length w) 0 in
+    (same ∙ long, rw same e)
+
+-- the block of `a` is that of the next episode too, unless that one is the first of its block
+pub next-block : (a n : ℕ) (ls : List (ℕ × ℕ)) (w : List ℕ) → BlockMarks (a / 64) n ls w → (a + 1) % 64 ≢ 0 → BlockMarks ((a + 1) / 64) n ls w
+next-block a n ls w m ne x b h l = let same : (a + 1) / 64 ≡ a / 64 = go (ℕ-discrete ((a + 1) % 64) 0) in m x b (h ∙ same) l
+  where
+    go : Dec ((a + 1) % 64 ≡ 0) → (a + 1) / 64 ≡ a / 64
+    go (yes e) = absurd (ne e)
+    go (no f) = omega arith

@@ -3,7 +3,7 @@ use mathlib.Core.Path.{_≡_}
 use mathlib.Core.Logic.{_≢_}
 use mathlib.Core.Bool.{Bool, true, false}
 use mathlib.Core.List.{List, [], _∷_, _++_}
-use Prim.Native.Nat.{ℕ, zero, suc, _+_, _<_}
+use Prim.Native.Nat.{ℕ, zero, suc, _+_, _*_, _/_, _%_, _<_}
 use lib.Dec.{eqb}
 use lib.ListN.{length, getD, set}
 use Rattle.paths.specs.Graph.{Graph}
@@ -27,11 +27,23 @@ mark false = 0
 abbrev pub Marks : ℕ → List (ℕ × ℕ) → List ℕ → Type 0
 Marks a ls row = (b : ℕ) → b < length row → getD row b 0 ≡ mark (linked a b ls)
 
--- the word `x` between head and end is taken for the row of `a`: `from` becomes `r`
-pub record WordTaken (x from a r : ℕ) (row row′ : List ℕ) : Type 0 where
-  pub of-from : kind x ≡ 2 → (r ≡ number x) × (row′ ≡ row)
-  pub of-to : kind x ≢ 2 → from ≡ a → (r ≡ from) × (row′ ≡ set row (number x) 1)
-  pub of-other : kind x ≢ 2 → from ≢ a → (r ≡ from) × (row′ ≡ row)
+-- the words of a block: a row of 256 words for each of 64 episodes
+abbrev pub blockWords : ℕ
+blockWords = 16384
+
+-- where the row of `a` starts in its block
+abbrev pub rowAt : ℕ → ℕ
+rowAt a = a % 64 * 256
+
+-- the rows of the episodes of the block hold the marks of the links from them
+abbrev pub BlockMarks : ℕ → ℕ → List (ℕ × ℕ) → List ℕ → Type 0
+BlockMarks block n ls w = (a b : ℕ) → a / 64 ≡ block → b < n → getD w (rowAt a + b) 0 ≡ mark (linked a b ls)
+
+-- the word `x` between head and end is taken for the block: `from` becomes `r`
+pub record WordTaken (x from block r : ℕ) (w w′ : List ℕ) : Type 0 where
+  pub of-from : kind x ≡ 2 → (r ≡ number x) × (w′ ≡ w)
+  pub of-to : kind x ≢ 2 → from / 64 ≡ block → (r ≡ from) × (w′ ≡ set w (rowAt from + number x) 1)
+  pub of-other : kind x ≢ 2 → from / 64 ≢ block → (r ≡ from) × (w′ ≡ w)
 
 -- the numbers below `k` that are marked in the row, rising
 unfoldable pub marked : List ℕ → ℕ → List ℕ

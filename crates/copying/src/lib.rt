@@ -1,38 +1,52 @@
-// The fair copy of a log, row by row: for each episode its links are marked in a row of words, and the marked ones are written.
+// The fair copy of a log, block by block: the links from 64 episodes are marked in one pass over the log, in a row of 256 words for each
+// episode; then the marked ones are written, row by row.
 ghost use mathlib.Core.Path.{_≡_};
-ghost use Prim.Native.Nat.{_^_, _<_, _≤_};
+ghost use mathlib.Core.Logic.{_≢_};
+ghost use Prim.Native.Nat.{_/_, _%_, _^_, _<_, _≤_};
 ghost use lib.ListN.{length, replicate};
 ghost use Rattle.log.specs.Words.{number};
 ghost use Rattle.log.specs.Log.{graphOf};
 ghost use Rattle.writing.specs.Layout.{BeginsWith};
 ghost use Rattle.copying.specs.FairCopy.{linkedTo, group, fairWords};
-ghost use Rattle.copying.specs.Copying.{PassedWith, Marks, WordTaken, marked, groupLength, GroupWritten, GroupsWritten};
+ghost use Rattle.copying.specs.Copying.{PassedWith, blockWords, BlockMarks, WordTaken, marked, groupLength, GroupWritten, GroupsWritten};
 
-// Takes a word between head and end: a from word's number is given back, and a to word is marked if its link is from `a`.
-fn take_word(word: u32, from: usize, a: usize, row: &mut [u32]) -> usize
-    requires { ⌜ number word < length (now row) ⌝ }
-    ensures { λ r. ⌜ WordTaken word from a r (now (row .entry)) (now (row .exit)) ⌝ }
+// Takes a word between head and end: a from word's number is given back, and a to word is marked in the row of `from` if that is in the
+// block.
+fn take_word(word: u32, from: usize, block: usize, w: &mut [u32]) -> usize
+    requires { ⌜ (number word < 256) × (length (now w) ≡ blockWords) ⌝ }
+    ensures { λ r. ⌜ WordTaken word from block r (now (w .entry)) (now (w .exit)) ⌝ }
 {
     let number = log::number_of(word);
     if log::kind_of(word) == 2 {
         return number;
     }
-    if from == a {
-        row[number] = 1;
+    if from / 64 == block {
+        w[from % 64 * 256 + number] = 1;
     }
     from
 }
 
-// Marks the episodes that `a` is linked to, in a row of zeros with a word for each episode.
-fn mark_row(log: &[u32], a: usize, row: &mut [u32])
-    requires { ⌜ PassedWith (now log) (length (now row)) × (now row ≡ replicate (length (now row)) 0) ⌝ }
-    ensures { λ _. ⌜ (length (now (row .exit)) ≡ length (now (row .entry))) × Marks a (graphOf (now (log .entry)) .links) (now (row .exit)) ⌝ }
+// Marks the links of a log from the episodes of a block, in words that are zero.
+fn mark_block(log: &[u32], n: usize, block: usize, w: &mut [u32])
+    requires { ⌜ PassedWith (now log) n × (n ≤ 256) × (length (now w) ≡ blockWords) × (now w ≡ replicate (length (now w)) 0) ⌝ }
+    ensures { λ _. ⌜ BlockMarks block n (graphOf (now (log .entry)) .links) (now (w .exit)) ⌝ }
 {
     let mut from = 0;
     let mut at = 1;
     while at + 1 < log.len() {
-        from = take_word(log[at], from, a, row);
+        from = take_word(log[at], from, block, w);
         at += 1;
+    }
+}
+
+// The marks of the block that `a` is in, made where it is the first episode there.
+fn block_of(log: &[u32], n: usize, a: usize, w: &mut [u32])
+    requires { ⌜ PassedWith (now log) n × (n ≤ 256) × (length (now w) ≡ blockWords) × (a % 64 ≢ 0 → BlockMarks (a / 64) n (graphOf (now log) .links) (now w)) ⌝ }
+    ensures { λ _. ⌜ BlockMarks (a / 64) n (graphOf (now (log .entry)) .links) (now (w .exit)) ⌝ }
+{
+    if a % 64 == 0 {
+        bits::clear(w);
+        mark_block(log, n, a / 64, w);
     }
 }
 
@@ -57,15 +71,15 @@ fn write_group(row: &[u32], a: usize, out: &mut [u32]) -> usize
 }
 
 // The links of `a`, marked and written.
-fn copy_row(log: &[u32], a: usize, out: &mut [u32], row: &mut [u32]) -> usize
-    requires { ⌜ PassedWith (now log) (length (now row)) × (a < length (now row))
-        × (length (group a (linkedTo a (graphOf (now log) .links) (length (now row)))) < length (now out)) ⌝ }
-    ensures { λ r. ⌜ (length (now (row .exit)) ≡ length (now (row .entry)))
-        × GroupWritten a (linkedTo a (graphOf (now (log .entry)) .links) (length (now (row .entry)))) (now (out .entry)) (now (out .exit)) r ⌝ }
+fn copy_row(log: &[u32], n: usize, a: usize, out: &mut [u32], w: &mut [u32]) -> usize
+    requires { ⌜ PassedWith (now log) n × (n ≤ 256) × (length (now w) ≡ blockWords) × (a % 64 ≢ 0 → BlockMarks (a / 64) n (graphOf (now log) .links) (now w))
+        × (a < n) × (length (group a (linkedTo a (graphOf (now log) .links) n)) < length (now out)) ⌝ }
+    ensures { λ r. ⌜ BlockMarks (a / 64) n (graphOf (now (log .entry)) .links) (now (w .exit))
+        × GroupWritten a (linkedTo a (graphOf (now (log .entry)) .links) n) (now (out .entry)) (now (out .exit)) r ⌝ }
 {
-    bits::clear(row);
-    mark_row(log, a, row);
-    write_group(row, a, out)
+    block_of(log, n, a, w);
+    let row = a % 64 * 256;
+    write_group(&w[row..row + n], a, out)
 }
 
 // How many words a group of so many links has.
@@ -83,15 +97,15 @@ struct Written {
 }
 
 // Writes the groups of all episodes behind the first word.
-fn write_groups(log: &[u32], out: &mut [u32], row: &mut [u32]) -> Written
-    requires { ⌜ PassedWith (now log) (length (now row)) × (length (fairWords (graphOf (now log))) ≤ length (now out)) ⌝ }
+fn write_groups(log: &[u32], n: usize, out: &mut [u32], w: &mut [u32]) -> Written
+    requires { ⌜ PassedWith (now log) n × (n ≤ 256) × (length (now w) ≡ blockWords) × (length (fairWords (graphOf (now log))) ≤ length (now out)) ⌝ }
     ensures { λ r. ⌜ GroupsWritten (graphOf (now (log .entry))) (now (out .entry)) (now (out .exit)) (r .words) (r .links) ⌝ }
 {
     let mut words = 1;
     let mut links = 0;
     let mut a = 0;
-    while a < row.len() {
-        let more = copy_row(log, a, &mut out[words..], row);
+    while a < n {
+        let more = copy_row(log, n, a, &mut out[words..], w);
         words += group_words(more);
         links += more;
         a += 1;
@@ -99,13 +113,12 @@ fn write_groups(log: &[u32], out: &mut [u32], row: &mut [u32]) -> Written
     Written { words, links }
 }
 
-// Writes the fair copy of a log that passes, and gives its count of words. The row has a word for each episode.
-pub fn write_copy(log: &[u32], out: &mut [u32], row: &mut [u32]) -> usize
-    requires { ⌜ PassedWith (now log) (length (now row)) × (length (fairWords (graphOf (now log))) ≤ length (now out)) ⌝ }
+// Writes the fair copy of a log that passes with `n` episodes, and gives its count of words.
+pub fn write_copy(log: &[u32], n: usize, out: &mut [u32], w: &mut [u32]) -> usize
+    requires { ⌜ PassedWith (now log) n × (n ≤ 256) × (length (now w) ≡ blockWords) × (length (fairWords (graphOf (now log))) ≤ length (now out)) ⌝ }
     ensures { λ r. ⌜ (r ≡ length (fairWords (graphOf (now (log .entry))))) × BeginsWith (fairWords (graphOf (now (log .entry)))) (now (out .entry)) (now (out .exit)) ⌝ }
 {
-    let n = row.len();
-    let groups = write_groups(log, out, row);
+    let groups = write_groups(log, n, out, w);
     let words = groups.words;
     let links = groups.links;
     out[0] = 0x1000_0000 + n as u32;

@@ -1,10 +1,8 @@
 -- A fair copy call by what its questions answer: from each answer to what the call leaves.
-use mathlib.Core.Path.{_≡_, refl, sym, ap, _∙_}
-use mathlib.Core.List.{List, _++_}
+use mathlib.Core.Path.{_≡_, refl, sym}
+use mathlib.Core.List.{List}
 use Prim.Native.Nat.{ℕ, _-_, _^_, _≤_, _<_}
-use native.Mathlib.Omega.{arith}
-use lib.ListN.{length, getD, take, drop, replicate, length-append, length-drop}
-use lib.Seq.{length-take-le}
+use lib.ListN.{length, getD}
 use Rattle.log.specs.Answer.{given, refused}
 use Rattle.log.specs.Log.{questions, graphOf}
 use Rattle.log.specs.declared.Ceilings.{Ceilings}
@@ -49,13 +47,3 @@ module _ (m : Ceilings) (l o w : List ℕ) (n t : ℕ) (e : questions m l ≡ gi
     begins,
     clean,
   )
-
--- the row is lent from the work words, and then all of them are made zero
-pub all-cleared : (w part : List ℕ) {w′ : List ℕ} (n : ℕ) → n ≤ length w → length part ≡ length (take (n - 0) w)
-    → w′ ≡ replicate (length (part ++ drop (n - 0) w)) 0 → w′ ≡ replicate (length w) 0
-all-cleared w part n h e f =
-    let all : n - 0 ≡ n = omega arith in
-    let row : length part ≡ n = e ∙ rw all (length-take-le n w h) in
-    let rest : length (drop (n - 0) w) ≡ length w - (n - 0) = length-drop (n - 0) w in
-    let same : length (part ++ drop (n - 0) w) ≡ length w = length-append part (drop (n - 0) w) ∙ omega arith in
-    f ∙ ap (λ (k : ℕ). replicate k 0) same

@@ -104,17 +104,17 @@ pub enum CopyOutcome {
 
 // The fair copy of a log that passes, in work words of which none is left as it was.
 fn copy(log: &[u32], n: usize, out: &mut [u32], w: &mut [u32]) -> usize
-    requires { ⌜ PassedWith (now log) n × (length (fairWords (graphOf (now log))) ≤ length (now out)) × (n ≤ length (now w)) ⌝ }
+    requires { ⌜ PassedWith (now log) n × (n ≤ 256) × (length (fairWords (graphOf (now log))) ≤ length (now out)) × (length (now w) ≡ workWords) ⌝ }
     ensures { λ r. ⌜ (r ≡ length (fairWords (graphOf (now (log .entry))))) × BeginsWith (fairWords (graphOf (now (log .entry)))) (now (out .entry)) (now (out .exit)) × (now (w .exit) ≡ replicate (length (now (w .entry))) 0) ⌝ }
 {
-    let words = copying::write_copy(log, out, &mut w[0..n]);
+    let words = copying::write_copy(log, n, out, w);
     bits::clear(w);
     words
 }
 
 // The fair copy at a caller's ceilings.
 fn fair_copy_within(most: Ceilings, log: &[u32], out: &mut [u32], work: &mut [u32]) -> CopyOutcome
-    requires { ⌜ most .episodes ≤ workWords ⌝ }
+    requires { ⌜ most .episodes ≤ 256 ⌝ }
     ensures { λ r. ⌜ CopyLeft most (now (log .entry)) (now (out .entry)) (now (work .entry)) (now (out .exit)) (now (work .exit)) r ⌝ }
 {
     match log::read_within(most, log) {

@@ -1,29 +1,45 @@
--- `copying::copy_row` meets its contract: what is marked in the row is what `a` is linked to.
+-- `copying::copy_row` meets its contract: what is marked in the row of `a` is what `a` is linked to.
 -- Assumes nothing.
 use native.Mathlib.Omega.{arith}
 use borrow.Author.Needs.{needs}
-use Rattle.copying.proofs.Rows.{cleared-row, marked-row}
-use Rattle.copying.proofs.Copies.{episodes-few}
+use Rattle.log.specs.Log.{graphOf}
+use Rattle.copying.proofs.Rows.{row-marks}
 use Rattle.copying.proofs.copy_row.Statement.{statement}
 use Rattle.copying.proofs.copy_row.Tie as tie
 
-clear-requires : tie.Need-clear-requires
-clear-requires c κs = search needs
+-- the entry, from the place where the block is there
+abbrev start : tie.After-block-of → tie.Start
+start c = c .before .before .before .before .before
 
-mark-row-requires : tie.Need-mark-row-requires
-mark-row-requires c κs =
-    let s = c .before .before .before .before .before .before .before .before in
-    cleared-row (s .args .log .now) (s .args .row .now) (c .before .before .before .clear .last .0) (s .pre .0)
-    (c .before .before .before .clear .ensures)
+block-of-requires : tie.Need-block-of-requires
+block-of-requires c κs = search needs
+
+mul-row : tie.Need-mul-row
+mul-row c = search needs
+
+add-write-group : tie.Need-add-write-group
+add-write-group c = search needs
+
+mul-write-group : tie.Need-mul-write-group
+mul-write-group c = search needs
+
+sub-write-group : tie.Need-sub-write-group
+sub-write-group c = search needs
+
+part-write-group-start : tie.Need-part-write-group-start
+part-write-group-start c = search needs
+
+part-write-group-end : tie.Need-part-write-group-end
+part-write-group-end c = search needs
 
 write-group-requires : tie.Need-write-group-requires
 write-group-requires c κs =
-    let s = c .before .before .before .before .before .before .before .before .before .before .before .before .before in
-    let m = c .before .before .before .before .mark-row in
-    let zero = c .before .before .before .before .before .before .before .before .clear in
-    let row = marked-row (s .args .log .now) (s .args .row .now) (zero .last .0) (m .last .1 .1 .0) (s .args .a) (zero .ensures) (m .ensures) in
-    let few = episodes-few (s .args .log .now) _ (s .pre .0) in
-    (rw (row .1) (s .pre .2), omega (arith, row .0), omega (arith, row .0))
+    let at = c .before .before .before .before .before in
+    let s = start at in
+    let row =
+    row-marks (s .args .a) (s .args .n) (graphOf (s .args .log .now) .links) (at .block-of .last .1 .1 .1 .0) (s .pre .1) (omega arith)
+    (at .block-of .ensures) in
+    (rw (row .1) (s .pre .5), omega (arith, row .0), omega (arith, row .0))
 
 same-length : tie.Need-same-length
 same-length c = search needs
@@ -33,18 +49,24 @@ same-length-2 c = search needs
 
 returns : tie.Need-returns
 returns c =
-    let s = c .before .before .before .before .before .before .before .before .before .before .before .before .before .before .before .before in
-    let m = c .before .before .before .before .before .before .before .mark-row in
-    let zero = c .before .before .before .before .before .before .before .before .before .before .before .clear in
-    let row = marked-row (s .args .log .now) (s .args .row .now) (zero .last .0) (m .last .1 .1 .0) (s .args .a) (zero .ensures) (m .ensures) in
-    (row .0, rw (row .1) at (c .before .before .write-group .ensures))
+    let at = c .before .before .before .before .before .before .before .before in
+    let s = start at in
+    let row =
+    row-marks (s .args .a) (s .args .n) (graphOf (s .args .log .now) .links) (at .block-of .last .1 .1 .1 .0) (s .pre .1) (omega arith)
+    (at .block-of .ensures) in
+    (at .block-of .ensures, rw (row .1) at (c .before .before .write-group .ensures))
 
 pub copy-row-spec : {M : Type 1} → statement M
 copy-row-spec =
     tie.close
     (tie.spec
-    clear-requires
-    mark-row-requires
+    block-of-requires
+    mul-row
+    add-write-group
+    mul-write-group
+    sub-write-group
+    part-write-group-start
+    part-write-group-end
     write-group-requires
     same-length
     same-length-2

@@ -1,4 +1,4 @@
--- `copying::take_word` meets its contract: a from word is given back, and a to word whose link is from `a` is marked.
+-- `copying::take_word` meets its contract: a from word is given back, and a to word whose link is from the block is marked.
 -- Assumes nothing.
 use mathlib.Core.Path.{refl}
 use native.Mathlib.Omega.{arith}
@@ -13,13 +13,24 @@ kind-of-requires : tie.Need-kind-of-requires
 kind-of-requires c κs = search needs
 
 returns : tie.Need-returns
-returns c = record { of-from = λ k. (c .before .before .number-of .ensures, refl); of-to = λ k. absurd (omega arith); of-other = λ k. absurd (omega arith) }
+returns c =
+    record {
+      of-from = λ k. (c .before .before .number-of .ensures, refl);
+      of-to = λ k. absurd (omega arith);
+      of-other = λ k. absurd (omega arith);
+    }
 
-mul-row : tie.Need-mul-row
-mul-row c = search needs
+mul-w : tie.Need-mul-w
+mul-w c = search needs
 
-slice-write-row : tie.Need-slice-write-row
-slice-write-row c = search needs
+add-w : tie.Need-add-w
+add-w c = search needs
+
+mul-w-2 : tie.Need-mul-w-2
+mul-w-2 c = search needs
+
+slice-write-w : tie.Need-slice-write-w
+slice-write-w c = search needs
 
 same-length : tie.Need-same-length
 same-length c = search needs
@@ -33,7 +44,8 @@ returns-2 c =
     }
 
 returns-3 : tie.Need-returns-3
-returns-3 c = record { of-from = λ k. absurd (omega arith); of-to = λ k e. absurd (omega arith); of-other = λ k e. (refl, refl) }
+returns-3 c =
+    record { of-from = λ k. absurd (omega arith); of-to = λ k e. absurd (omega arith); of-other = λ k e. (refl, refl) }
 
 pub take-word-spec : {M : Type 1} → statement M
 take-word-spec =
@@ -42,8 +54,10 @@ take-word-spec =
     number-of-requires
     kind-of-requires
     returns
-    mul-row
-    slice-write-row
+    mul-w
+    add-w
+    mul-w-2
+    slice-write-w
     same-length
     returns-2
     returns-3)

@@ -2,7 +2,7 @@
 -- Assumes nothing.
 use Prim.Native.Nat.{_<_, _^_}
 use native.Mathlib.Omega.{arith}
-use lib.ListN.{length, length-set}
+use lib.ListN.{length-set}
 use borrow.Author.Needs.{needs}
 use Rattle.log.specs.Log.{graphOf}
 use Rattle.copying.proofs.Copies.{passed-episodes, episodes-few, links-few, end-room, copy-whole}
@@ -13,7 +13,7 @@ use Rattle.copying.proofs.write_copy.Tie as tie
 abbrev start : tie.After-slice-known4 → tie.Start
 start c = c .before .before .before .before .before .before .before .before .before .before
 
-few-episodes : (c : tie.After-slice-known4) → length (start c .args .row .now) < 2 ^ 28
+few-episodes : (c : tie.After-slice-known4) → start c .args .n < 2 ^ 28
 few-episodes c = episodes-few (start c .args .log .now) _ (start c .pre .0)
 
 few-links : (c : tie.After-slice-known4) → c .before .before .before .before .write-groups .result .links < 2 ^ 28
@@ -46,8 +46,8 @@ slice-write-out-2 : tie.Need-slice-write-out-2
 slice-write-out-2 c =
     let written = c .before .before .before .before .write-groups in
     simp length-set
-    (end-room (graphOf (start c .args .log .now)) (start c .args .out .now) (written .last .1 .0) (written .result .words) (written .result .links)
-    (start c .pre .1) (written .ensures))
+    (end-room (graphOf (start c .args .log .now)) (start c .args .out .now) (written .last .1 .1 .0) (written .result .words) (written .result .links)
+    (start c .pre .3) (written .ensures))
 
 add-result : tie.Need-add-result
 add-result c = search needs
@@ -61,8 +61,8 @@ same-length-2 c = search needs
 returns : tie.Need-returns
 returns c =
     let written = c .before .before .before .before .write-groups in
-    copy-whole (graphOf (start c .args .log .now)) (start c .args .out .now) (written .last .1 .0) (written .result .words) (written .result .links)
-    (start c .pre .1) (written .ensures) _ (passed-episodes (start c .args .log .now) _ (start c .pre .0))
+    copy-whole (graphOf (start c .args .log .now)) (start c .args .out .now) (written .last .1 .1 .0) (written .result .words) (written .result .links)
+    (start c .pre .3) (written .ensures) _ (passed-episodes (start c .args .log .now) _ (start c .pre .0))
 
 pub write-copy-spec : {M : Type 1} → statement M
 write-copy-spec =

@@ -1,15 +1,17 @@
 -- `copying::write_groups` meets its contract. The invariant: the groups of the episodes below `a` stand behind the first word, and the
--- row has a word for each episode.
+-- block of `a` is marked unless `a` is the first of it.
 -- Assumes nothing.
-use mathlib.Core.Path.{_≡_, refl, sym, _∙_}
+use mathlib.Core.Path.{_≡_, refl, _∙_}
+use mathlib.Core.Logic.{_≢_}
 use mathlib.Core.List.{List}
-use Prim.Native.Nat.{ℕ, _-_, _≤_, _<_, _^_}
+use Prim.Native.Nat.{ℕ, _-_, _/_, _%_, _≤_, _<_, _^_}
 use native.Mathlib.Omega.{arith}
 use lib.ListN.{length}
 use Rattle.log.specs.Log.{graphOf}
 use Rattle.copying.specs.FairCopy.{linkedTo}
-use Rattle.copying.specs.Copying.{GroupWritten}
+use Rattle.copying.specs.Copying.{BlockMarks, GroupWritten}
 use Rattle.copying.proofs.Linked.{length-linkedTo}
+use Rattle.copying.proofs.Rows.{next-block}
 use Rattle.copying.proofs.Copies.{
   Copying,
   copying-none,
@@ -27,34 +29,34 @@ use Rattle.copying.proofs.write_groups.Statement.{statement}
 use Rattle.copying.proofs.write_groups.Tie as tie
 
 abbrev Inv-loop : tie.InvT-loop
-Inv-loop log out₀ row₀ words₀ links₀ a₀ out row words links a = (length row ≡ length row₀) × Copying (graphOf log) out₀ out words links a
+Inv-loop log n out₀ w₀ words₀ links₀ a₀ out w words links a =
+    (length w ≡ length w₀) × (a % 64 ≢ 0 → BlockMarks (a / 64) n (graphOf log .links) w) × Copying (graphOf log) out₀ out words links a
 
 abbrev μ-loop : tie.MeasureT-loop
-μ-loop log out₀ row₀ words₀ links₀ a₀ out row words links a = length row₀ - a
+μ-loop log n out₀ w₀ words₀ links₀ a₀ out w words links a = n - a
 
 loop-holds : tie.Need-loop-holds Inv-loop μ-loop
 loop-holds c =
     let s = c .before .before .before in
-    (refl, copying-none (graphOf (s .args .log .now)) (s .args .out .now) (s .pre .1))
+    (refl, λ e. absurd (e refl), copying-none (graphOf (s .args .log .now)) (s .args .out .now) (s .pre .3))
 
 -- the entry, from the loop
 abbrev start : tie.At-loop Inv-loop μ-loop → tie.Start Inv-loop μ-loop
 start c = c .before .before .before .before
 
--- the row has a word for each episode
-episodes : (c : tie.At-loop Inv-loop μ-loop) → graphOf (start c .args .log .now) .n ≡ length (c .loop .row)
-episodes c = passed-episodes (start c .args .log .now) _ (start c .pre .0) ∙ sym (c .loop .inv .0)
+episodes : (c : tie.At-loop Inv-loop μ-loop) → graphOf (start c .args .log .now) .n ≡ start c .args .n
+episodes c = passed-episodes (start c .args .log .now) _ (start c .pre .0)
 
 -- the words have room in the output, and an episode has few links
 within : (c : tie.At-loop Inv-loop μ-loop) → c .loop .words ≤ length (c .loop .out)
-within c = copying-at (c .loop .inv .1) (start c .pre .1)
+within c = copying-at (c .loop .inv .2) (start c .pre .3)
 
 few-links : (c : tie.At-loop Inv-loop μ-loop) {o o′ : List ℕ} {r : ℕ}
-    → GroupWritten (c .loop .a) (linkedTo (c .loop .a) (graphOf (start c .args .log .now) .links) (length (c .loop .row))) o o′ r → r < 2 ^ 28
+    → GroupWritten (c .loop .a) (linkedTo (c .loop .a) (graphOf (start c .args .log .now) .links) (start c .args .n)) o o′ r → r < 2 ^ 28
 few-links c {r = r} g =
     let few = episodes-few (start c .args .log .now) _ (start c .pre .0) in
-    let most = length-linkedTo (c .loop .a) (graphOf (start c .args .log .now) .links) (length (c .loop .row)) in
-    omega (arith, g .count, c .loop .inv .0)
+    let most = length-linkedTo (c .loop .a) (graphOf (start c .args .log .now) .links) (start c .args .n) in
+    omega (arith, g .count)
 
 mul-copy-row : tie.Need-mul-copy-row Inv-loop μ-loop
 mul-copy-row c = omega (arith, within (c .before))
@@ -71,9 +73,12 @@ part-copy-row-end c = omega arith
 copy-row-requires : tie.Need-copy-row-requires Inv-loop μ-loop
 copy-row-requires c κs =
     let at = c .before .before .before in (
-      rw (at .loop .inv .0) (start at .pre .0),
+      start at .pre .0,
+      start at .pre .1,
+      at .loop .inv .0 ∙ start at .pre .2,
+      at .loop .inv .1,
       omega arith,
-      copying-room (at .loop .inv .1) (start at .pre .1) _ (episodes at) (omega arith),
+      copying-room (at .loop .inv .2) (start at .pre .3) _ (episodes at) (omega arith),
     )
 
 group-words-requires : tie.Need-group-words-requires Inv-loop μ-loop
@@ -90,7 +95,7 @@ add-links : tie.Need-add-links Inv-loop μ-loop
 add-links c =
     let at = c .before .before .before .before .before .before .before .before .before in
     let few = few-links at (c .before .before .before .before .before .copy-row .ensures .1) in
-    omega (arith, at .loop .inv .1 .count, links-few (start at .args .log .now) _ (start at .pre .0) (at .loop .a))
+    omega (arith, at .loop .inv .2 .count, links-few (start at .args .log .now) _ (start at .pre .0) (at .loop .a))
 
 add-a : tie.Need-add-a Inv-loop μ-loop
 add-a c = omega arith
@@ -102,18 +107,19 @@ loop-again : tie.Need-loop-again Inv-loop μ-loop
 loop-again c =
     let at = c .before .before .before .before .before .before .before .before .before in
     let row = c .before .before .before .before .before .copy-row in (
-      row .ensures .0 ∙ at .loop .inv .0,
-      copying-on (at .loop .inv .1) (start at .pre .1) _ (episodes at) (omega arith) (row .ensures .1) refl (c .group-words .ensures),
+      omega arith,
+      next-block (at .loop .a) (start at .args .n) (graphOf (start at .args .log .now) .links) (row .last .1 .1 .1 .1 .0) (row .ensures .0),
+      copying-on (at .loop .inv .2) (start at .pre .3) _ (episodes at) (omega arith) (row .ensures .1) refl (c .group-words .ensures),
     )
 
 same-length : tie.Need-same-length Inv-loop μ-loop
-same-length c = copying-length (c .before .loop .inv .1) (start (c .before) .pre .1)
+same-length c = copying-length (c .before .loop .inv .2) (start (c .before) .pre .3)
 
 same-length-2 : tie.Need-same-length-2 Inv-loop μ-loop
 same-length-2 c = c .before .loop .inv .0
 
 returns : tie.Need-returns Inv-loop μ-loop
-returns c = copying-all (c .before .loop .inv .1) (start (c .before) .pre .1) _ (episodes (c .before)) (omega arith)
+returns c = copying-all (c .before .loop .inv .2) (start (c .before) .pre .3) _ (episodes (c .before)) (omega arith)
 
 pub write-groups-spec : {M : Type 1} → statement M
 write-groups-spec =

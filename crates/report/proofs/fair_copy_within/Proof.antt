@@ -73,8 +73,7 @@ copy-requires c κs =
     let v = at .n .given .0 in
     let fits = copy-fits (s .args .most) (s .args .log .now) (v .0) (v .1 .0) (passed at) in
     let few = few-episodes (s .args .most) (s .args .log .now) (v .0) (v .1 .0) (passed at) in
-    let long = length-take-le workWords (s .args .work .now) (omega arith) in
-    ((s .args .most, v .1 .0, passed at), omega arith, omega (arith, s .pre))
+    ((s .args .most, v .1 .0, passed at), omega (arith, s .pre), omega arith, length-take-le workWords (s .args .work .now) (omega arith))
 
 returns-3 : tie.Need-returns-3
 returns-3 c =

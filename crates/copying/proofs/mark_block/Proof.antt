@@ -1,23 +1,24 @@
--- `copying::mark_row` meets its contract. The invariant: the row marks the links from `a` of the words before `at`, and `from` is the
--- nearest from word's number.
+-- `copying::mark_block` meets its contract. The invariant: the block marks the links of the words before `at`, and `from` is the nearest
+-- from word's number.
 -- Assumes nothing.
+use mathlib.Core.Path.{_∙_}
 use Prim.Native.Nat.{_-_}
 use native.Mathlib.Omega.{arith}
 use lib.ListN.{length}
 use Rattle.copying.proofs.Rows.{Marking, marking-start, marking-on, marking-end, number-below}
-use Rattle.copying.proofs.mark_row.Statement.{statement}
-use Rattle.copying.proofs.mark_row.Tie as tie
+use Rattle.copying.proofs.mark_block.Statement.{statement}
+use Rattle.copying.proofs.mark_block.Tie as tie
 
 abbrev Inv-loop : tie.InvT-loop
-Inv-loop log a row₀ from₀ at₀ row from at = Marking log row₀ row a from at
+Inv-loop log n block w₀ from₀ at₀ w from at = Marking log w₀ w n block from at
 
 abbrev μ-loop : tie.MeasureT-loop
-μ-loop log a row₀ from₀ at₀ row from at = length log - at
+μ-loop log n block w₀ from₀ at₀ w from at = length log - at
 
 loop-holds : tie.Need-loop-holds Inv-loop μ-loop
 loop-holds c =
     let s = c .before .before in
-    marking-start (s .args .log .now) (s .args .row .now) (s .args .a) (s .pre .0) (s .pre .1)
+    marking-start (s .args .log .now) (s .args .w .now) (s .args .n) (s .args .block) (s .pre .0) (s .pre .1) (s .pre .2) (s .pre .3)
 
 add-loop : tie.Need-add-loop Inv-loop μ-loop
 add-loop c = omega arith
@@ -31,8 +32,11 @@ shared-slice-read-take-word c = omega arith
 take-word-requires : tie.Need-take-word-requires Inv-loop μ-loop
 take-word-requires c κs =
     let s = c .before .before .before .before .before .before in
-    let at = c .before .before .before .loop in
-    number-below (s .args .log .now) (s .args .row .now) (at .row) (s .args .a) (at .from) (at .at) (s .pre .0) (at .inv) (omega arith)
+    let at = c .before .before .before .loop in (
+      number-below (s .args .log .now) (s .args .w .now) (at .w) (s .args .n) (s .args .block) (at .from) (at .at) (s .pre .0) (s .pre .1) (at .inv)
+          (omega arith),
+      at .inv .same-length ∙ s .pre .2,
+    )
 
 add-at : tie.Need-add-at Inv-loop μ-loop
 add-at c = omega arith
@@ -44,8 +48,8 @@ loop-again : tie.Need-loop-again Inv-loop μ-loop
 loop-again c =
     let s = c .before .before .before .before .before .before .before .before .before in
     let at = c .before .before .before .before .before .before .loop in
-    marking-on (s .args .log .now) (s .args .row .now) (at .row) (s .args .a) (at .from) (at .at) (s .pre .0) (at .inv) (omega arith)
-    (c .before .before .take-word .ensures)
+    marking-on (s .args .log .now) (s .args .w .now) (at .w) (s .args .n) (s .args .block) (at .from) (at .at) (s .pre .0) (s .pre .1) (at .inv)
+    (omega arith) (s .pre .2) (c .before .before .take-word .ensures)
 
 same-length : tie.Need-same-length Inv-loop μ-loop
 same-length c = omega arith
@@ -54,10 +58,10 @@ returns : tie.Need-returns Inv-loop μ-loop
 returns c =
     let s = c .before .before .before .before in
     let at = c .before .loop in
-    marking-end (s .args .log .now) (s .args .row .now) (at .row) (s .args .a) (at .from) (at .at) (s .pre .0) (at .inv) (omega arith)
+    marking-end (s .args .log .now) (s .args .w .now) (at .w) (s .args .n) (s .args .block) (at .from) (at .at) (s .pre .0) (at .inv) (omega arith)
 
-pub mark-row-spec : {M : Type 1} → statement M
-mark-row-spec =
+pub mark-block-spec : {M : Type 1} → statement M
+mark-block-spec =
     tie.close
     (tie.spec
     Inv-loop
