@@ -2,35 +2,15 @@
 use mathlib.Core.Path.{_≡_, refl, sym, _∙_, ap, ap₂}
 use mathlib.Core.Bool.{Bool, true, false, _&&_}
 use mathlib.Core.Logic.{_⊎_, inl, inr, ⊎-elim}
-use mathlib.Core.List.{
-  List,
-  [],
-  _∷_,
-  _++_,
-  List·Memᴰ as Mem,
-  List·Memᴰ·head as here,
-  List·Memᴰ·tail as there,
-  List·Memᴰ·not-nil as not-nil,
-  List·Memᴰ·eq-of-singleton as eq-of-singleton,
-  List·Memᴰ·append-cases as append-cases,
-  Memᴰ·append-left,
-  Memᴰ·append-right,
-  List·Nodup,
-  Pairwise·nil,
-  IsChain·nil,
-  IsChain·singleton,
-  IsChain·cons-cons,
-}
+use mathlib.Core.List.{List, [], _∷_, _++_, List·Memᴰ as Mem, List·Memᴰ·head as here, List·Memᴰ·not-nil as not-nil, List·Memᴰ·eq-of-singleton as eq-of-singleton, List·Memᴰ·append-cases as append-cases, Memᴰ·append-left, Memᴰ·append-right, List·Nodup, IsChain·nil}
 use Prim.Native.Nat.{ℕ, zero, suc, _+_, _-_, _≤_, _<_}
 use native.Mathlib.Decide.{ℕ-discrete}
 use native.Mathlib.Numerals.{add-one}
 use native.Mathlib.Omega.{arith}
 use lib.Dec.{eqb}
 use borrow.Author.Tests.{eqb-true, eqb-false, eq-eqb, ne-eqb}
-use Rattle.order.specs.Order.{All}
-use Rattle.order.proofs.Lists.{nodup-cons}
 use Rattle.paths.specs.Graph.{Rising}
-use Rattle.paths.proofs.Numbers.{rising-first}
+use Rattle.paths.proofs.Numbers.{rising-snoc, rising-nodup}
 use Rattle.chains.specs.Items.{Tables, Matching, Open, openTest, memberTest, members}
 
 -- `k` behind `l` where the test passes
@@ -48,18 +28,6 @@ both false b e = let z : _≡_ {A = ℕ} 0 1 = cc in let none : ⊥ = omega arit
 -- the test of an open item, from whether it ends its chain and whether the next is seen
 abbrev openBy : Bool → ℕ → Bool
 openBy b s = elim b [ true ↦ true | false ↦ eqb s 1 ]
-
-rising-snoc : {l : List ℕ} {k : ℕ} → Rising l → All (λ v. v < k) l → Rising (l ++ (k ∷ []))
-rising-snoc {k = k} IsChain·nil h = IsChain·singleton k
-rising-snoc {k = k} (IsChain·singleton a) h = IsChain·cons-cons (h a (here refl)) (IsChain·singleton k)
-rising-snoc (IsChain·cons-cons r c) h = IsChain·cons-cons r (rising-snoc c (λ v m. h v (there m)))
-
--- the members of a rising list are all different
-rising-nodup : {l : List ℕ} → Rising l → List·Nodup l
-rising-nodup IsChain·nil = Pairwise·nil
-rising-nodup (IsChain·singleton a) = nodup-cons not-nil Pairwise·nil
-rising-nodup (IsChain·cons-cons {a = a} {b = b} {l = l} r c) =
-    nodup-cons (λ m. let h : a < a = rising-first (IsChain·cons-cons r c) m in omega arith) (rising-nodup c)
 
 module _ (t : Tables) where
   pub members-more : (k : ℕ) → memberTest t k ≡ true → members t (k + 1) ≡ members t k ++ (k ∷ [])

@@ -1,6 +1,6 @@
 -- The groups in the output, episode by episode, and the whole copy.
-use mathlib.Core.Path.{_≡_, refl, sym, ap, subst, _∙_}
-use mathlib.Core.List.{List, [], _∷_, _++_, map}
+use mathlib.Core.Path.{_≡_, refl, sym, ap, subst}
+use mathlib.Core.List.{List, [], _∷_, _++_}
 use Prim.Native.Nat.{ℕ, zero, suc, _+_, _-_, _≤_, _<_, _^_}
 use native.Mathlib.Numerals.{add-one}
 use native.Mathlib.Omega.{arith}
@@ -14,7 +14,7 @@ use Rattle.writing.specs.Layout.{BeginsWith}
 use Rattle.writing.proofs.Buffers.{begins-itself, begins-first, begins-more, begins-length, begins-part, lent-part, lent-rest}
 use Rattle.copying.specs.FairCopy.{linkedTo, group, groups, groupLinks, fairWords}
 use Rattle.copying.specs.Copying.{PassedWith, groupLength, GroupWritten, GroupsWritten}
-use Rattle.copying.proofs.Linked.{length-group, length-linkedTo, groups-more, length-fair, group-room}
+use Rattle.copying.proofs.Linked.{length-group, groups-more, length-fair, group-room}
 use Rattle.copying.proofs.GroupLinks.{linksOf, length-group-links}
 
 -- the numbers of a log that passes fit its words

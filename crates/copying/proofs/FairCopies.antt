@@ -2,12 +2,13 @@
 -- have the same fair copy exactly when they have the same links. The fair copy of a log that passes questions 1 to 10 passes them.
 use mathlib.Core.Path.{_≡_, refl, _∙_, ap, ap₂, sym}
 use mathlib.Core.Logic.{_↔_}
-use mathlib.Core.List.{List, _++_}
+use mathlib.Core.List.{List, _++_, List·Nodup}
 use Prim.Native.Nat.{ℕ, zero, suc, _-_, _<_, _≤_}
 use native.Mathlib.Omega.{arith}
 use lib.ListN.{length, getD}
 use Rattle.paths.specs.Graph.{Graph, Link, EndsBelow, SameLinks}
 use Rattle.paths.proofs.Numbers.{rising-equal}
+use Rattle.paths.proofs.Same.{same-sym, same-trans}
 use Rattle.log.specs.Words.{Small}
 use Rattle.log.specs.Answer.{given}
 use Rattle.log.specs.Log.{questions, graphOf}
@@ -16,18 +17,8 @@ use Rattle.log.proofs.Words.{number-lt}
 use Rattle.log.proofs.Laws.{well-formed, few-episodes, few-words, graph-episodes, graph-count, links-below}
 use Rattle.copying.specs.FairCopy.{linkedTo, group, groups, groupLinks, fairWords, fairNeed}
 use Rattle.copying.proofs.Linked.{linkedTo-mem, mem-linkedTo, linkedTo-rising}
-use Rattle.copying.proofs.GroupLinks.{linksOf, group-links-mem, mem-group-links, length-group-links, fair-fits}
+use Rattle.copying.proofs.GroupLinks.{linksOf, group-links-mem, mem-group-links, group-links-nodup, length-group-links, fair-fits}
 use Rattle.copying.proofs.ReadBack.{fair-episodes, fair-links, fair-passes}
-
-same-sym : {g h : Graph} → SameLinks g h → SameLinks h g
-same-sym s = record { episodes = sym (s .episodes); links = λ a b. (s .links a b .1, s .links a b .0) }
-
-same-trans : {g h k : Graph} → SameLinks g h → SameLinks h k → SameLinks g k
-same-trans s r =
-    record {
-      episodes = s .episodes ∙ r .episodes;
-      links = λ a b. (λ l. r .links a b .0 (s .links a b .0 l), λ l. s .links a b .1 (r .links a b .1 l));
-    }
 
 -- the fair copy depends only on the episodes and on the links between them
 module _ (g h : Graph) (episodes : g .n ≡ h .n) (same : (a b : ℕ) → a < g .n → b < g .n → Link g a b ↔ Link h a b) where
@@ -113,6 +104,10 @@ module _ (m : Ceilings) (l : List ℕ) (n t : ℕ) (e : questions m l ≡ given 
   -- it has the same links
   pub copy-same : SameLinks (graphOf l) (graphOf (fairWords (graphOf l)))
   copy-same = fair-same (graphOf l) log-few log-count (links-below m l n t e)
+
+  -- it repeats no link
+  pub copy-once : List·Nodup (graphOf (fairWords (graphOf l)) .links)
+  copy-once = rw (fair-links (graphOf l) log-few (count-links (graphOf l) log-few log-count)) (group-links-nodup (graphOf l) (graphOf l .n))
 
   -- its own fair copy is the same words
   pub copy-again : fairWords (graphOf (fairWords (graphOf l))) ≡ fairWords (graphOf l)

@@ -6,3 +6,4 @@ pub mod FairCopies
 pub mod Rows
 pub mod Groups
 pub mod Copies
+pub mod Worked

@@ -2,26 +2,7 @@
 use mathlib.Core.Path.{_≡_, refl, _∙_, ap, sym, ap₂}
 use mathlib.Core.Logic.{_⊎_, inl, inr, ⊎-elim}
 use mathlib.Core.Bool.{Bool, true, false, _&&_, _||_, true≢false, or-true, or-assoc}
-use mathlib.Core.List.{
-  List,
-  [],
-  _∷_,
-  _++_,
-  List·Memᴰ as Mem,
-  List·Memᴰ·head as here,
-  List·Memᴰ·tail as there,
-  List·Memᴰ·not-nil as not-nil,
-  List·Memᴰ·cases-cons as mem-cases,
-  List·Memᴰ·eq-of-singleton as eq-of-singleton,
-  List·Memᴰ·append-cases as append-cases,
-  Memᴰ·append-left,
-  Memᴰ·append-right,
-  List·Nodup,
-  Pairwise·nil,
-  IsChain·nil,
-  IsChain·singleton,
-  IsChain·cons-cons,
-}
+use mathlib.Core.List.{List, [], _∷_, _++_, List·Memᴰ as Mem, List·Memᴰ·head as here, List·Memᴰ·tail as there, List·Memᴰ·not-nil as not-nil, List·Memᴰ·cases-cons as mem-cases, List·Memᴰ·eq-of-singleton as eq-of-singleton, List·Memᴰ·append-cases as append-cases, Memᴰ·append-left, Memᴰ·append-right, List·Nodup, IsChain·nil}
 use Prim.Native.Nat.{ℕ, zero, suc, _+_, _*_, _<_, _≤_}
 use native.Mathlib.Decide.{ℕ-discrete}
 use native.Mathlib.Numerals.{add-one}
@@ -30,9 +11,8 @@ use lib.Dec.{eqb}
 use lib.ListN.{length, length-append, length-map}
 use borrow.Author.Tests.{eqb-true, eq-eqb}
 use Rattle.order.specs.Order.{All}
-use Rattle.order.proofs.Lists.{nodup-cons}
 use Rattle.paths.specs.Graph.{Graph, Rising}
-use Rattle.paths.proofs.Numbers.{rising-first, nodup-below}
+use Rattle.paths.proofs.Numbers.{nodup-below, rising-snoc, rising-nodup}
 use Rattle.log.specs.Words.{word}
 use Rattle.copying.specs.FairCopy.{linked, linkedTo, group, groups, groupLinks, fairWords}
 use Rattle.copying.specs.Copying.{groupLength}
@@ -74,19 +54,6 @@ pub linked-append : (a b : ℕ) (xs ys : List (ℕ × ℕ)) → linked a b (xs +
 unfolding linked
 linked-append a b [] ys = refl
 linked-append a b (l ∷ xs) ys = rw (linked-append a b xs ys) (sym (or-assoc (eqb a (l .0) && eqb b (l .1)) (linked a b xs) (linked a b ys)))
-
--- a rising list and a larger number behind it
-rising-snoc : {l : List ℕ} {k : ℕ} → Rising l → All (λ v. v < k) l → Rising (l ++ (k ∷ []))
-rising-snoc {k = k} IsChain·nil h = IsChain·singleton k
-rising-snoc {k = k} (IsChain·singleton a) h = IsChain·cons-cons (h a (here refl)) (IsChain·singleton k)
-rising-snoc (IsChain·cons-cons r c) h = IsChain·cons-cons r (rising-snoc c (λ v m. h v (there m)))
-
--- the members of a rising list are all different
-rising-nodup : {l : List ℕ} → Rising l → List·Nodup l
-rising-nodup IsChain·nil = Pairwise·nil
-rising-nodup (IsChain·singleton a) = nodup-cons not-nil Pairwise·nil
-rising-nodup (IsChain·cons-cons {a = a} {b = b} {l = l} r c) =
-    nodup-cons (λ m. let h : a < a = rising-first (IsChain·cons-cons r c) m in omega arith) (rising-nodup c)
 
 module _ (a : ℕ) (ls : List (ℕ × ℕ)) where
   -- one episode more

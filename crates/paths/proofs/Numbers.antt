@@ -5,12 +5,14 @@ use mathlib.Core.List.{
   List,
   [],
   _∷_,
+  _++_,
   List·Memᴰ as Mem,
   List·Memᴰ·head as here,
   List·Memᴰ·tail as there,
   List·Memᴰ·not-nil as not-nil,
   List·Memᴰ·cases-cons as mem-cases,
   List·Nodup,
+  Pairwise·nil,
   IsChain·nil,
   IsChain·singleton,
   IsChain·cons-cons,
@@ -20,7 +22,7 @@ use native.Mathlib.Decide.{ℕ-discrete}
 use native.Mathlib.Omega.{arith}
 use lib.ListN.{length}
 use Rattle.order.specs.Order.{All}
-use Rattle.order.proofs.Lists.{all-nil, all-cons, nodup-le}
+use Rattle.order.proofs.Lists.{all-nil, all-cons, nodup-cons, nodup-le}
 use Rattle.paths.specs.Graph.{Rising}
 
 -- the numbers below `n`, the largest first
@@ -66,6 +68,19 @@ rising-first {a} {x} (IsChain·cons-cons {b = b} {l = l} h r) m = go (rising-fir
 rising-tail : {a : ℕ} {s : List ℕ} → Rising (a ∷ s) → Rising s
 rising-tail (IsChain·singleton _) = IsChain·nil
 rising-tail (IsChain·cons-cons h r) = r
+
+-- a rising list and a larger number behind it
+pub rising-snoc : {l : List ℕ} {k : ℕ} → Rising l → All (λ v. v < k) l → Rising (l ++ (k ∷ []))
+rising-snoc {k = k} IsChain·nil h = IsChain·singleton k
+rising-snoc {k = k} (IsChain·singleton a) h = IsChain·cons-cons (h a (here refl)) (IsChain·singleton k)
+rising-snoc (IsChain·cons-cons r c) h = IsChain·cons-cons r (rising-snoc c (λ v m. h v (there m)))
+
+-- the members of a rising list are all different
+pub rising-nodup : {l : List ℕ} → Rising l → List·Nodup l
+rising-nodup IsChain·nil = Pairwise·nil
+rising-nodup (IsChain·singleton a) = nodup-cons not-nil Pairwise·nil
+rising-nodup (IsChain·cons-cons {a = a} {b = b} {l = l} r c) =
+    nodup-cons (λ m. let h : a < a = rising-first (IsChain·cons-cons r c) m in omega arith) (rising-nodup c)
 
 -- rising lists with the same members are equal
 pub rising-equal : (s r : List ℕ) → Rising s → Rising r → All (λ v. Mem v r) s → All (λ v. Mem v s) r → s ≡ r

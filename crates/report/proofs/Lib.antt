@@ -1,4 +1,4 @@
--- What is promised of a report call, and its proof. Promises is the module to read first.
+-- What is promised of the calls, and its proof. Promises is the module to read first.
 pub mod Promises
 pub mod Asked
 pub mod Reported
@@ -7,4 +7,5 @@ pub mod Said
 pub mod SmallLogs
 pub mod Answers
 pub mod Calls
+pub mod Copied
 pub mod CopyCalls

@@ -1,23 +1,28 @@
--- What is promised of logs and of report calls, each statement in full; the proofs are in the modules that are named. Of a call is said
+-- What is promised of logs and of calls, each statement in full; the proofs are in the modules that are named. Of a call is said
 -- what its contract says, `Left m l o w o′ w′ r`: `m` are the ceilings, any of them, the service's `service` included; `l` is the log, `o` and
 -- `w` are the output and the work buffer at entry, `o′` and `w′` at exit, and `r` is the outcome, of which `outcomeAnswer` gives the
 -- scope's numbers. The report's words are the first `c` of the output, `take c o′`, where `c` is the count that the outcome gives.
-use mathlib.Core.Path.{_≡_, subst}
+use mathlib.Core.Path.{_≡_, sym, ap, subst, _∙_}
 use mathlib.Core.Logic.{_↔_}
-use mathlib.Core.List.{List, _++_}
+use mathlib.Core.List.{List, _++_, List·Nodup}
 use Prim.Native.Nat.{ℕ, _≤_}
 use lib.ListN.{length, take, drop, getD}
 use Rattle.order.specs.Order.{All}
-use Rattle.paths.specs.Graph.{Cover, Apart, Smallest, Largest, Width, Furthest, Rising, Loop}
+use Rattle.paths.specs.Graph.{SameLinks, Way, Cover, Apart, Smallest, Largest, Width, Furthest, Rising, Loop}
 use Rattle.paths.proofs.Theorems as graphs
 use Rattle.log.specs.Words.{kind, number}
 use Rattle.log.specs.Answer.{given, refused}
-use Rattle.log.specs.Log.{graphOf}
+use Rattle.log.specs.Log.{questions, graphOf}
 use Rattle.log.specs.declared.Ceilings.{Ceilings}
 use Rattle.writing.specs.Layout.{reportWords, loopWords, reportNeed, apartOf, threadsOf, BeginsWith}
+use Rattle.copying.specs.FairCopy.{fairWords, fairNeed}
+use Rattle.copying.proofs.FairCopies as fair
 use Rattle.report.specs.Report.{outcomeAnswer, asked, cleared, Paired, Reported, LoopShown, Passes, Left}
 use Rattle.report.specs.Accepted.{Accepted, LentEnough}
 use Rattle.report.specs.declared.Outcome.{Outcome}
+use Rattle.report.specs.Copied.{copyAnswer, copyAsked, CopyLeft}
+use Rattle.report.specs.declared.CopyOutcome.{CopyOutcome}
+use Rattle.report.proofs.Copied as copies
 use Rattle.report.proofs.SmallLogs as small
 use Rattle.report.proofs.SmallLogs.{Right, rows}
 use Rattle.report.proofs.Reported as calls
@@ -135,3 +140,76 @@ loop-fits l = calls.loop-fits
 -- of every call on it.
 pub small-logs : All Right rows
 small-logs = small.small-logs
+
+-- 6. Of every fair copy call: `CopyLeft m l o w o′ w′ r` is its contract, and `copyAnswer` gives the scope's numbers. The copy's words are the
+-- first `c` of the output.
+module _ (m : Ceilings) (l o w o′ w′ : List ℕ) (r : CopyOutcome) (left : CopyLeft m l o w o′ w′ r) where
+  -- A copy is given exactly when questions 1 to 12 are answered yes; loops are copied like other links.
+  pub copy-exactly : ((c : ℕ) × (copyAnswer r ≡ given c)) ↔ (copyAsked m l (length o) (length w) ≡ given (graphOf l .n, length (graphOf l .links)))
+  copy-exactly = (λ (c, e). copies.given-left m l o w o′ w′ r c left e .passes, λ passes. copies.asked-given-count m l o w o′ w′ r passes left)
+
+  -- It is refused exactly when questions 1 to 12 refuse, with that number and place. Then no buffer changes.
+  pub copy-refused-exactly : (q p : ℕ) → (copyAnswer r ≡ refused q p) ↔ (copyAsked m l (length o) (length w) ≡ refused q p)
+  copy-refused-exactly q p = (λ e. copies.refused-asked m l o w o′ w′ r q p left e .0, copies.asked-refused m l o w o′ w′ r q p left)
+
+  pub copy-refused-unchanged : (q p : ℕ) → copyAnswer r ≡ refused q p → (o′ ≡ o) × (w′ ≡ w)
+  copy-refused-unchanged q p e = let d = copies.refused-asked m l o w o′ w′ r q p left e in (d .1, d .2)
+
+module _ (m : Ceilings) (l o w o′ w′ : List ℕ) (r : CopyOutcome) (left : CopyLeft m l o w o′ w′ r) (c : ℕ) (e : copyAnswer r ≡ given c) where
+  -- what the proofs below cite
+  copy : copies.CopyGiven m l o w o′ w′ c
+  copy = copies.given-left m l o w o′ w′ r c left e
+
+  -- The words are those of the fair copy. Behind them the output is unchanged; the first 16,384 work words are zero and the others unchanged.
+  pub copy-words : (take c o′ ≡ fairWords (graphOf l)) × (o′ ≡ take c o′ ++ drop c o) × (w′ ≡ cleared w)
+  copy-words = (copy .words, copy .unchanged, copy .work)
+
+  -- They are at most 2 + 2t, t being the to words of the log.
+  pub copy-fits : c ≤ fairNeed (length (graphOf l .links))
+  copy-fits = rw (copy .count) (fair.copy-fits m l _ _ (copy .read))
+
+  -- Read back as a log they pass questions 1 to 10, with the same n and a to word for each link; and the links are the same set.
+  pub copy-read-back : (questions m (take c o′) ≡ given (graphOf l .n, length (graphOf (take c o′) .links)))
+      × SameLinks (graphOf l) (graphOf (take c o′))
+  copy-read-back =
+      let same = fair.copy-same m l _ _ (copy .read) in
+      let read = calls.read-graph m (fairWords (graphOf l)) _ _ (fair.copy-read m l _ _ (copy .read)) in
+      rw (copy .words) (read ∙ ap (λ (k : ℕ). given (k, length (graphOf (fairWords (graphOf l)) .links))) (sym (same .episodes)), same)
+
+  -- No link is repeated.
+  pub copy-once : List·Nodup (graphOf (take c o′) .links)
+  copy-once = rw (copy .words) (fair.copy-once m l _ _ (copy .read))
+
+  -- So the log and its copy have the same ways, covers and apart sets, width and furthest apart set, and the same loops.
+  pub copy-ways : (a b : ℕ) → Way (graphOf l) a b ↔ Way (graphOf (take c o′)) a b
+  copy-ways = graphs.same-ways (copy-read-back .1)
+
+  pub copy-covers : (ts : List (List ℕ)) → Cover (graphOf l) ts ↔ Cover (graphOf (take c o′)) ts
+  copy-covers = graphs.same-covers (copy-read-back .1)
+
+  pub copy-apart : (s : List ℕ) → Apart (graphOf l) s ↔ Apart (graphOf (take c o′)) s
+  copy-apart = graphs.same-apart (copy-read-back .1)
+
+  pub copy-width : (k : ℕ) → Width (graphOf l) k ↔ Width (graphOf (take c o′)) k
+  copy-width = graphs.same-width (copy-read-back .1)
+
+  pub copy-furthest : (s : List ℕ) → Furthest (graphOf l) s ↔ Furthest (graphOf (take c o′)) s
+  copy-furthest = graphs.same-furthest (copy-read-back .1)
+
+  pub copy-loops : (k : List ℕ) → Loop (graphOf l) k ↔ Loop (graphOf (take c o′)) k
+  copy-loops = graphs.same-loops (copy-read-back .1)
+
+  -- A second call, at any ceilings and with any buffers, that gives a copy too.
+  module _ (m₂ : Ceilings) (l₂ o₂ w₂ o₂′ w₂′ : List ℕ) (r₂ : CopyOutcome) (left₂ : CopyLeft m₂ l₂ o₂ w₂ o₂′ w₂′ r₂) (c₂ : ℕ)
+      (e₂ : copyAnswer r₂ ≡ given c₂) where
+    -- The two copies are equal exactly when n and the sets of links agree.
+    pub copies-equal : (take c o′ ≡ take c₂ o₂′) ↔ SameLinks (graphOf l) (graphOf l₂)
+    copies-equal =
+        let second = copies.given-left m₂ l₂ o₂ w₂ o₂′ w₂′ r₂ c₂ left₂ e₂ in
+        rw (copy .words, second .words) (fair.copies-equal m m₂ l l₂ _ _ _ _ (copy .read) (second .read))
+
+    -- The copy of a copy is the copy.
+    pub copy-again : l₂ ≡ take c o′ → take c₂ o₂′ ≡ take c o′
+    copy-again is-copy =
+        let second = copies.given-left m₂ l₂ o₂ w₂ o₂′ w₂′ r₂ c₂ left₂ e₂ in
+        rw (second .words, is-copy, copy .words) (fair.copy-again m l _ _ (copy .read))

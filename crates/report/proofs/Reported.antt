@@ -107,7 +107,7 @@ abbrev Asks : Ceilings → (l o w : List ℕ) → Answer (ℕ × ℕ)
 Asks m l o w = asked m (λ n t. reportNeed n) l (length o) (length w)
 
 -- an answer is not both given and refused
-not-both : {A : Type 0} (x : Answer A) (a : A) (q p : ℕ) → x ≡ given a → x ≡ refused q p → ⊥
+pub not-both : {A : Type 0} (x : Answer A) (a : A) (q p : ℕ) → x ≡ given a → x ≡ refused q p → ⊥
 not-both x a q p e f = let none : _≡_ {A = ℕ} 0 1 = cc in omega arith
 
 -- a loop is a way from its first episode to itself

@@ -1,7 +1,7 @@
 -- `report::fair_copy_within` meets its contract: on each way out the questions have been answered as the outcome says, and the buffers
 -- are as it says. Assumes nothing.
 use borrow.Author.Needs.{needs}
-use mathlib.Core.Path.{_≡_, _∙_}
+use mathlib.Core.Path.{_≡_}
 use Prim.Native.Nat.{_<_, _^_}
 use native.Mathlib.Omega.{arith}
 use lib.Seq.{length-take-le}
