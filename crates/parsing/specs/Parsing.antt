@@ -1,6 +1,5 @@
 -- What the steps of the parse find.
 use mathlib.Core.Path.{_≡_}
-use mathlib.Core.Logic.{_≢_}
 use mathlib.Core.Bool.{Bool, true, false}
 use mathlib.Core.List.{List, [], _++_}
 use Prim.Native.Nat.{ℕ, _+_, _≤_, _<_}
@@ -10,29 +9,35 @@ use Rattle.log.specs.Words.{kind}
 use Rattle.writing.specs.Layout.{threadWords, threadsWords}
 use Rattle.parsing.specs.Whole.{ThreadFits, IsReport, Whole}
 
--- whether all words from `from` on and before `end` are of kind `k`
-pub record AllOfKind (ws : List ℕ) (from end k : ℕ) (r : Bool) : Type 0 where
-  pub all : r ≡ true → (j : ℕ) → from ≤ j → j < end → kind (getD ws j 0) ≡ k
-  pub other : r ≡ false → (j : ℕ) × (from ≤ j) × (j < end) × (kind (getD ws j 0) ≢ k)
+-- all words from `from` on and before `end` are of kind `k`
+abbrev pub OfKind : List ℕ → ℕ → ℕ → ℕ → Type 0
+OfKind ws from end k = (j : ℕ) → from ≤ j → j < end → kind (getD ws j 0) ≡ k
 
--- a thread stands from `at` on and before `r`; or `r` is 0, and no thread stands there
+-- whether they are
+pub record KindTest (ws : List ℕ) (from end k : ℕ) (r : Bool) : Type 0 where
+  pub all : r ≡ true → OfKind ws from end k
+  pub not-all : r ≡ false → OfKind ws from end k → ⊥
+
+-- `r` is the place behind the thread that stands at `at`, or 0 where none does
 pub record ThreadEnd (ws : List ℕ) (at r : ℕ) : Type 0 where
   pub within : r ≤ length ws
-  pub found : 0 < r → (t : List ℕ) × ThreadFits t × (r ≡ at + 1 + length t) × (drop at ws ≡ threadWords t ++ drop r ws)
-  pub none : r ≡ 0 → (t rest : List ℕ) → ThreadFits t → drop at ws ≡ threadWords t ++ rest → ⊥
+  pub found : 0 < r → (t : List ℕ) × ThreadFits t × (drop at ws ≡ threadWords t ++ drop r ws)
+  pub behind : (t rest : List ℕ) → ThreadFits t → drop at ws ≡ threadWords t ++ rest → r ≡ at + length (threadWords t)
 
--- `k` threads stand from `at` on and before `r`; or `r` is 0, and no `k` threads stand there
+-- `r` is the place behind the `k` threads that stand from `at` on, or 0 where they do not
 pub record ThreadsEnd (ws : List ℕ) (at k r : ℕ) : Type 0 where
   pub within : r ≤ length ws
   pub found : 0 < r → (ts : List (List ℕ)) × (length ts ≡ k) × All ThreadFits ts × (drop at ws ≡ threadsWords ts ++ drop r ws)
-  pub none : r ≡ 0 → (ts : List (List ℕ)) (rest : List ℕ) → length ts ≡ k → All ThreadFits ts → drop at ws ≡ threadsWords ts ++ rest → ⊥
+  pub behind : (ts : List (List ℕ)) (rest : List ℕ) → length ts ≡ k → All ThreadFits ts → drop at ws ≡ threadsWords ts ++ rest
+      → r ≡ at + length (threadsWords ts)
 
 -- whether the words are a whole report
 pub record WholeTest (ws : List ℕ) (r : Bool) : Type 0 where
   pub whole : r ≡ true → Whole ws
   pub not-whole : r ≡ false → Whole ws → ⊥
 
--- thread `i` of a whole report starts at `r`
-pub record ThreadAt (ws : List ℕ) (i r : ℕ) : Type 0 where
-  pub starts : (apart : List ℕ) (threads : List (List ℕ)) → IsReport ws apart threads → i < length threads
-      → (rest : List ℕ) × (drop r ws ≡ threadWords (getD threads i []) ++ rest)
+-- thread `i` of a whole report stands at `r`
+abbrev pub ThreadAt : List ℕ → ℕ → ℕ → Type 0
+ThreadAt ws i r =
+    (apart : List ℕ) (threads : List (List ℕ)) → IsReport ws apart threads → i < length threads
+    → (rest : List ℕ) × (drop r ws ≡ threadWords (getD threads i []) ++ rest)

@@ -9,3 +9,5 @@ pub mod Answers
 pub mod Calls
 pub mod Copied
 pub mod CopyCalls
+pub mod ThreadCalls
+pub mod ThreadsLeft

@@ -4,17 +4,20 @@
 -- scope's numbers. The report's words are the first `c` of the output, `take c o′`, where `c` is the count that the outcome gives.
 use mathlib.Core.Path.{_≡_, sym, ap, subst, _∙_}
 use mathlib.Core.Logic.{_↔_}
-use mathlib.Core.List.{List, _++_, List·Nodup}
-use Prim.Native.Nat.{ℕ, _≤_}
+use mathlib.Core.List.{List, [], _++_, map, List·Nodup}
+use Prim.Native.Nat.{ℕ, _≤_, _<_}
+use native.Mathlib.Omega.{arith}
 use lib.ListN.{length, take, drop, getD}
 use Rattle.order.specs.Order.{All}
 use Rattle.paths.specs.Graph.{SameLinks, Way, Cover, Apart, Smallest, Largest, Width, Furthest, Rising, Loop}
 use Rattle.paths.proofs.Theorems as graphs
-use Rattle.log.specs.Words.{kind, number}
+use Rattle.log.specs.Words.{kind, number, word}
 use Rattle.log.specs.Answer.{given, refused}
 use Rattle.log.specs.Log.{questions, graphOf}
 use Rattle.log.specs.declared.Ceilings.{Ceilings}
 use Rattle.writing.specs.Layout.{reportWords, loopWords, reportNeed, apartOf, threadsOf, BeginsWith}
+use Rattle.parsing.specs.Whole.{IsReport, Whole, ThreadNumber, ThreadSteps}
+use Rattle.parsing.proofs.Wholes.{report-read}
 use Rattle.copying.specs.FairCopy.{fairWords, fairNeed}
 use Rattle.copying.proofs.FairCopies as fair
 use Rattle.report.specs.Report.{outcomeAnswer, asked, cleared, Paired, Reported, LoopShown, Passes, Left}
@@ -23,6 +26,7 @@ use Rattle.report.specs.declared.Outcome.{Outcome}
 use Rattle.report.specs.Copied.{copyAnswer, copyAsked, CopyLeft}
 use Rattle.report.specs.declared.CopyOutcome.{CopyOutcome}
 use Rattle.report.proofs.Copied as copies
+use Rattle.report.proofs.ThreadsLeft as threads
 use Rattle.report.proofs.SmallLogs as small
 use Rattle.report.proofs.SmallLogs.{Right, rows}
 use Rattle.report.proofs.Reported as calls
@@ -213,3 +217,36 @@ module _ (m : Ceilings) (l o w o′ w′ : List ℕ) (r : CopyOutcome) (left : C
     copy-again is-copy =
         let second = copies.given-left m₂ l₂ o₂ w₂ o₂′ w₂′ r₂ c₂ left₂ e₂ in
         rw (second .words, is-copy, copy .words) (fair.copy-again m l _ _ (copy .read))
+
+-- 7. Of asking for thread `i` of any words `ws`: the number `n` that one call gives, by its contract `ThreadNumber ws i n`, and the stretch `s`
+-- that the other gives, by its contract `ThreadSteps ws i s`.
+module _ (ws : List ℕ) (i n : ℕ) (s : List ℕ) (number-asked : ThreadNumber ws i n) (steps-asked : ThreadSteps ws i s) where
+  -- Where the words are no whole report the number is 16, and the stretch is empty.
+  pub no-whole-report : (Whole ws → ⊥) → (n ≡ 16) × (s ≡ [])
+  no-whole-report = threads.report-refused ws i n s number-asked steps-asked
+
+  -- A whole report gives each of its threads, and 17 behind the last.
+  module _ (apart : List ℕ) (ts : List (List ℕ)) (report : IsReport ws apart ts) where
+    pub thread-given : i < length ts → (n ≡ 0) × (s ≡ map (word 7) (getD ts i [])) × (map number s ≡ getD ts i [])
+    thread-given = threads.thread-given ws i n s number-asked steps-asked apart ts report
+
+    pub thread-refused : length ts ≤ i → (n ≡ 17) × (s ≡ [])
+    thread-refused = threads.thread-refused ws i n s number-asked steps-asked apart ts report
+
+-- A whole report is that of one apart set and one list of threads, which are read back from its words.
+pub one-reading : (ws apart : List ℕ) (ts : List (List ℕ)) → IsReport ws apart ts → (apartOf ws ≡ apart) × (threadsOf ws ≡ ts)
+one-reading = report-read
+
+-- What a report call left, cut to its count, is a whole report, at ceilings below 256 episodes, as the service's are. So all its threads can
+-- be had this way: each `i` below the width gives the steps of thread `i`.
+module _ (m : Ceilings) (l o w o′ w′ : List ℕ) (r : Outcome) (left : Left m l o w o′ w′ r) (c : ℕ) (e : outcomeAnswer r ≡ given c)
+    (few : m .episodes < 256) where
+  pub report-whole : IsReport (take c o′) (apartOf (take c o′)) (threadsOf (take c o′))
+  report-whole = threads.left-whole m l o w o′ w′ c few (calls.given-left m l o w o′ w′ r c left e)
+
+  pub report-thread : (k i n : ℕ) (s : List ℕ) → Width (graphOf l) k → i < k → ThreadNumber (take c o′) i n → ThreadSteps (take c o′) i s
+      → (n ≡ 0) × (map number s ≡ getD (threadsOf (take c o′)) i [])
+  report-thread k i n s width below number-asked steps-asked =
+      let same : k ≡ length (threadsOf (take c o′)) = graphs.width-unique k _ width (both-width m l o w o′ w′ r left c e .0) in
+      let given-thread = thread-given (take c o′) i n s number-asked steps-asked _ _ report-whole (omega arith) in
+      (given-thread .0, given-thread .2)

@@ -33,13 +33,13 @@ use Rattle.report.proofs.Asked.{asked-passes, asked-given, asked-most}
 -- A report on a graph with few enough episodes for a word is read back from its words.
 module _ {g : Graph} {apart : List ℕ} {threads : List (List ℕ)} (few : Small (g .n)) (reported : Reported g apart threads) where
   -- it has no more members than episodes, and all its numbers fit a word
-  apart-few : length apart ≤ g .n
+  pub apart-few : length apart ≤ g .n
   apart-few = different-below (g .n) apart (reported .furthest .apart .antichain .once) (reported .furthest .apart .episodes)
 
-  apart-small : All Small apart
+  pub apart-small : All Small apart
   apart-small v m = let h : v < g .n = reported .furthest .apart .episodes v m in omega arith
 
-  threads-small : All SmallThread threads
+  pub threads-small : All SmallThread threads
   threads-small t m =
       let thread = reported .cover .threads t m in
       let short : length t ≤ g .n = different-below (g .n) t (thread-different (reported .acyclic) thread) (thread .episodes) in

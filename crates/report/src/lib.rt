@@ -1,4 +1,4 @@
-// The library's front: the report on a log and its fair copy.
+// The library's front: the report on a log, its fair copy, and the steps of one thread of a report.
 ghost use mathlib.Core.Path.{_≡_};
 ghost use Prim.Native.Nat.{_+_, _<_, _≤_};
 ghost use lib.ListN.{length, replicate};
@@ -6,6 +6,7 @@ ghost use Rattle.paths.specs.Graph.{Graph};
 ghost use Rattle.log.specs.Log.{service, graphOf};
 ghost use Rattle.reach.specs.Reach.{PassedLog};
 ghost use Rattle.writing.specs.Layout.{reportNeed, BeginsWith};
+ghost use Rattle.parsing.specs.Whole.{ThreadNumber, ThreadSteps};
 ghost use Rattle.copying.specs.FairCopy.{fairWords};
 ghost use Rattle.copying.specs.Copying.{PassedWith};
 ghost use Rattle.report.specs.Report.{workWords, Left};
@@ -120,15 +121,15 @@ fn fair_copy_within(most: Ceilings, log: &[u32], out: &mut [u32], work: &mut [u3
     match log::read_within(most, log) {
         Reading::Refused(number, place) => CopyOutcome::Refused(number, place),
         Reading::Passed(n, t) => {
-            let need = 2 + 2 * t;
-            if out.len() < need {
-                return CopyOutcome::Refused(11, need);
+            let needed = 2 + 2 * t;
+            if out.len() < needed {
+                return CopyOutcome::Refused(11, needed);
             }
-            let end = 16384;
-            if work.len() < end {
-                return CopyOutcome::Refused(12, end);
+            let used = 16384;
+            if work.len() < used {
+                return CopyOutcome::Refused(12, used);
             }
-            CopyOutcome::Copied(copy(log, n, out, &mut work[0..end]))
+            CopyOutcome::Copied(copy(log, n, out, &mut work[0..used]))
         }
     }
 }
@@ -146,4 +147,32 @@ pub fn fair_copy(log: &[u32], out: &mut [u32], work: &mut [u32]) -> CopyOutcome
         out,
         work,
     )
+}
+
+// The number that asking for thread `i` of a report's words gives: 0, 16 where they are no whole report, or 17 where it has no thread `i`.
+pub fn thread_number(report: &[u32], i: usize) -> u32
+    ensures { λ r. ⌜ ThreadNumber (now (report .entry)) i r ⌝ }
+{
+    let whole = parsing::is_whole(report);
+    let k = parsing::width(report);
+    if !whole {
+        return 16;
+    }
+    if k <= i {
+        return 17;
+    }
+    0
+}
+
+// The steps of thread `i` as a part of the report's words, empty where `thread_number` refuses.
+pub fn thread_steps(report: &[u32], i: usize) -> &[u32]
+    ensures { λ r. ⌜ ThreadSteps (now (report .entry)) i (now r) ⌝ }
+{
+    if thread_number(report, i) != 0 {
+        return &report[0..0];
+    }
+    let at = parsing::thread_at(report, i);
+    let start = at + 1;
+    let end = start + log::number_of(report[at]);
+    &report[start..end]
 }

@@ -105,7 +105,7 @@ threads-of-none [] rest h = refl
 threads-of-none (w ∷ ws) rest h = threads-of-other w (ws ++ rest) (h w (here refl)) ∙ threads-of-none ws rest (λ x m. h x (there m))
 
 -- the numbers and the kinds of words of one kind
-numbers-of : (k : ℕ) (s : List ℕ) → All Small s → map number (map (word k) s) ≡ s
+pub numbers-of : (k : ℕ) (s : List ℕ) → All Small s → map number (map (word k) s) ≡ s
 numbers-of k [] h = refl
 numbers-of k (x ∷ s) h =
     ap₂ (λ (y : ℕ) (r : List ℕ). y ∷ r) (number-word k x (h x (here refl))) (numbers-of k s (λ y m. h y (there m)))

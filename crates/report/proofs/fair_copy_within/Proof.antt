@@ -36,11 +36,11 @@ passed at = told (at .before .before .read-within .ensures) (at .n .given .1)
 few : (at : tie.After-n) → at .n .given .0 .1 .0 < 2 ^ 28
 few at = words-few (start at .args .most) (start at .args .log .now) (at .n .given .0 .0) (at .n .given .0 .1 .0) (passed at)
 
-mul-need : tie.Need-mul-need
-mul-need c = omega (arith, few (c .before))
+mul-needed : tie.Need-mul-needed
+mul-needed c = omega (arith, few (c .before))
 
-add-need : tie.Need-add-need
-add-need c = omega (arith, few (c .before))
+add-needed : tie.Need-add-needed
+add-needed c = omega (arith, few (c .before))
 
 returns : tie.Need-returns
 returns c =
@@ -105,8 +105,8 @@ fair-copy-within-spec =
     read-within-requires
     enum-known-number
     enum-known-n
-    mul-need
-    add-need
+    mul-needed
+    add-needed
     returns
     returns-2
     sub-copy

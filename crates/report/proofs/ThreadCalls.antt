@@ -1,0 +1,70 @@
+-- What asking for a thread of a report's words gives, from what the parse finds.
+use mathlib.Core.Path.{_≡_, refl, sym, ap, _∙_}
+use mathlib.Core.Logic.{inl, inr}
+use mathlib.Core.List.{List, []}
+use Prim.Native.Nat.{ℕ, _+_, _-_, _≤_, _<_}
+use native.Mathlib.Omega.{arith}
+use lib.ListN.{length, getD, take, drop}
+use Rattle.log.specs.Words.{number}
+use Rattle.parsing.specs.Whole.{IsReport, Whole, HasThread, HasNoThread, ThreadNumber, ThreadSteps}
+use Rattle.parsing.specs.Parsing.{ThreadAt}
+use Rattle.parsing.proofs.Wholes.{report-head, thread-room, thread-steps}
+
+module _ (ws : List ℕ) (i : ℕ) where
+  -- a whole report's width is the number of its threads
+  pub count-of : (apart : List ℕ) (threads : List (List ℕ)) → IsReport ws apart threads → length threads ≡ number (getD ws 0 0)
+  count-of apart threads report = report .same ∙ sym (report-head ws apart threads report .1)
+
+  pub has-below : HasThread ws i → i < number (getD ws 0 0)
+  has-below (apart, threads, report, lt) = omega (arith, count-of apart threads report)
+
+  has-not-below : HasNoThread ws i → number (getD ws 0 0) ≤ i
+  has-not-below (apart, threads, report, le) = omega (arith, count-of apart threads report)
+
+  pub no-report : (Whole ws → ⊥) → ThreadNumber ws i 16
+  no-report none =
+      record {
+        one-of = inr (inl refl);
+        given = (λ e. absurd (omega arith), λ has. absurd (none (has .0, has .1, has .2)));
+        no-report = (λ e. none, λ n. refl);
+        no-thread = (λ e. absurd (omega arith), λ has. absurd (none (has .0, has .1, has .2)));
+      }
+
+  pub no-thread : Whole ws → number (getD ws 0 0) ≤ i → ThreadNumber ws i 17
+  no-thread whole le =
+      record {
+        one-of = inr (inr refl);
+        given = (λ e. absurd (omega arith), λ has. absurd (omega (arith, has-below has)));
+        no-report = (λ e. absurd (omega arith), λ none. absurd (none whole));
+        no-thread = (λ e. (whole .0, whole .1, whole .2, omega (arith, count-of (whole .0) (whole .1) (whole .2))), λ has. refl);
+      }
+
+  pub a-thread : Whole ws → i < number (getD ws 0 0) → ThreadNumber ws i 0
+  a-thread whole lt =
+      record {
+        one-of = inl refl;
+        given = (λ e. (whole .0, whole .1, whole .2, omega (arith, count-of (whole .0) (whole .1) (whole .2))), λ has. refl);
+        no-report = (λ e. absurd (omega arith), λ none. absurd (none whole));
+        no-thread = (λ e. absurd (omega arith), λ has. absurd (omega (arith, has-not-below has)));
+      }
+
+  -- the empty stretch, where there is no thread `i`
+  pub no-steps : (HasThread ws i → ⊥) → ThreadSteps ws i []
+  no-steps none =
+      record {
+        part = (0, 0, omega arith, omega arith, refl);
+        steps = λ apart threads report lt. absurd (none (apart, threads, report, lt));
+        empty = λ n. refl;
+      }
+
+  -- the stretch of the thread that stands at `r`
+  pub its-steps : HasThread ws i → (r end : ℕ) → ThreadAt ws i r → end ≡ r + 1 + number (getD ws r 0)
+      → ThreadSteps ws i (take (end - (r + 1)) (drop (r + 1) ws))
+  its-steps has r end there last =
+      let long : end - (r + 1) ≡ number (getD ws r 0) = omega arith in
+      record {
+        part = (r + 1, end, omega arith, omega (arith, thread-room ws (has .0) (has .1) (has .2) i r (has .3) there .1), refl);
+        steps = λ apart threads report lt.
+            ap (λ (x : ℕ). take x (drop (r + 1) ws)) long ∙ thread-steps ws apart threads report i r lt there;
+        empty = λ none. absurd (none has);
+      }
