@@ -89,7 +89,7 @@ module _ (m : Ceilings) (l : List ℕ) (n t : ℕ) (e : questions m l ≡ given 
       let f = well-formed m l n t e in
       omega (arith, graph-count m l n t e, f .end-number, number-lt (getD l (length l - 1) 0))
 
-  -- it passes, with the same episodes and one to word for each link; these are at most `t`
+  -- it passes, with the same episodes and one to word for each link
   pub copy-read : questions m (fairWords (graphOf l)) ≡ given (n, length (groupLinks (graphOf l) n))
   copy-read =
       let fit : graphOf l .n ≤ m .episodes = omega (arith, graph-episodes m l n t e, few-episodes m l n t e) in
@@ -97,9 +97,6 @@ module _ (m : Ceilings) (l : List ℕ) (n t : ℕ) (e : questions m l ≡ given 
       let room : length (groupLinks (graphOf l) (graphOf l .n)) ≤ m .words = omega (arith, graph-count m l n t e, few-words m l n t e) in
       fair-passes m (graphOf l) log-few fit (omega (arith, log-count)) room
       ∙ ap (λ (k : ℕ). given (k, length (groupLinks (graphOf l) k))) (graph-episodes m l n t e)
-
-  pub copy-count : length (groupLinks (graphOf l) n) ≤ t
-  copy-count = omega (arith, length-group-links (graphOf l) n, graph-count m l n t e)
 
   -- it has the same links
   pub copy-same : SameLinks (graphOf l) (graphOf (fairWords (graphOf l)))

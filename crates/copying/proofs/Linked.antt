@@ -56,15 +56,6 @@ linked-append a b [] ys = refl
 linked-append a b (l ∷ xs) ys = rw (linked-append a b xs ys) (sym (or-assoc (eqb a (l .0) && eqb b (l .1)) (linked a b xs) (linked a b ys)))
 
 module _ (a : ℕ) (ls : List (ℕ × ℕ)) where
-  -- one episode more
-  pub linkedTo-more : (b : ℕ) → linked a b ls ≡ true → linkedTo a ls (b + 1) ≡ linkedTo a ls b ++ b ∷ []
-  unfolding linkedTo
-  linkedTo-more b e = rw (add-one, linkedTo, e)
-
-  pub linkedTo-same : (b : ℕ) → linked a b ls ≡ false → linkedTo a ls (b + 1) ≡ linkedTo a ls b
-  unfolding linkedTo
-  linkedTo-same b e = rw (add-one, linkedTo, e)
-
   -- its members are the episodes below `k` that `a` is linked to
   pub linkedTo-mem : (b k : ℕ) → Mem b (linkedTo a ls k) → (b < k) × Mem {A = ℕ × ℕ} (a, b) ls
   unfolding linkedTo

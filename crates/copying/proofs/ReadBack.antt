@@ -1,11 +1,11 @@
 -- The fair copy read back: its graph has the links of the groups, and it passes questions 1 to 10.
-use mathlib.Core.Path.{_≡_, refl, _∙_, ap, ap₂, sym}
+use mathlib.Core.Path.{_≡_, refl, _∙_, ap₂}
 use mathlib.Core.Bool.{Bool, true, false, or-true}
 use mathlib.Core.List.{List, [], _∷_, _++_, map, append-nil, append-assoc, List·Memᴰ·head as here, List·Memᴰ·tail as there}
 use Prim.Native.Nat.{ℕ, zero, suc, _+_, _^_, _<_, _≤_}
 use native.Mathlib.Nat.{add-zero}
 use native.Mathlib.Omega.{arith}
-use lib.ListN.{length, drop, length-append, length-map}
+use lib.ListN.{length, length-append, length-map}
 use borrow.Author.Tests.{le-leb}
 use Rattle.order.specs.Order.{All}
 use Rattle.paths.specs.Graph.{Graph}
@@ -15,7 +15,7 @@ use Rattle.log.specs.Log.{headWord, onwards, questions, linksFrom, graphOf}
 use Rattle.log.specs.declared.Ceilings.{Ceilings}
 use Rattle.log.proofs.Words.{kind-word, number-word}
 use Rattle.log.proofs.Asked.{FromTaken, ToTaken, there-to, from-given, to-given, end-given}
-use Rattle.log.proofs.Links.{links-from, links-to, links-end, links-nil, links-append, links-count, lastFrom, toWords}
+use Rattle.log.proofs.Links.{links-from, links-to, links-end, links-nil, links-append, lastFrom}
 use Rattle.copying.specs.FairCopy.{linkedTo, group, groups, groupLinks, fairWords}
 use Rattle.copying.proofs.Linked.{linkedTo-below}
 use Rattle.copying.proofs.GroupLinks.{linksOf}
@@ -57,13 +57,6 @@ module _ (g : Graph) (few : Small (g .n)) where
         let c : ℕ = lastFrom 0 (groups g (g .n)) in
         links-append 0 (groups g (g .n)) (word 15 t ∷ [])
         ∙ rw (links-end c (word 15 t) [] (kind-word 15 t count), links-nil, append-nil) (groups-links 0 (g .n) (omega arith))
-
-    pub fair-graph : graphOf (fairWords g) ≡ record { n = g .n; links = groupLinks g (g .n) }
-    fair-graph = ap₂ (λ (n : ℕ) (ls : List (ℕ × ℕ)). record { n = n; links = ls }) fair-episodes fair-links
-
-    -- the end is true: its number is the count of to words
-    pub fair-count : toWords (drop 1 (fairWords g)) ≡ length (groupLinks g (g .n))
-    fair-count = sym (links-count 0 (drop 1 (fairWords g))) ∙ ap length fair-links
 
 -- questions 4 to 10 of the words `s` behind the head, of which there is one or more
 abbrev over : Ceilings → ℕ → ℕ → List ℕ → Bool → ℕ → Answer (ℕ × ℕ)

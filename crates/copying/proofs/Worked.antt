@@ -1,7 +1,6 @@
 -- Fair copies worked through.
 use mathlib.Core.Path.{_≡_, refl}
-use mathlib.Core.List.{List, [], _∷_}
-use Rattle.paths.specs.Graph.{Graph}
+use mathlib.Core.List.{[], _∷_}
 use Rattle.copying.specs.FairCopy.{linked, linkedTo, group, groups, groupLinks, fairWords}
 
 -- no links: the head and the end

@@ -206,15 +206,19 @@ pub fn read_within(most: Ceilings, log: &[u32]) -> Reading
     Reading::Passed(n, count)
 }
 
+// The service's ceilings.
+pub fn service_ceilings() -> Ceilings
+    ensures { λ r. ⌜ r ≡ service ⌝ }
+{
+    Ceilings {
+        episodes: 200,
+        words: 4096,
+    }
+}
+
 // Questions 1 to 10, at the service's ceilings.
 pub fn read(log: &[u32]) -> Reading
     ensures { λ r. ⌜ readAnswer r ≡ questions service (now (log .entry)) ⌝ }
 {
-    read_within(
-        Ceilings {
-            episodes: 200,
-            words: 4096,
-        },
-        log,
-    )
+    read_within(service_ceilings(), log)
 }

@@ -85,15 +85,7 @@ fn report_within(most: Ceilings, log: &[u32], out: &mut [u32], work: &mut [u32])
 pub fn report(log: &[u32], out: &mut [u32], work: &mut [u32]) -> Outcome
     ensures { λ r. ⌜ Left service (now (log .entry)) (now (out .entry)) (now (work .entry)) (now (out .exit)) (now (work .exit)) r ⌝ }
 {
-    report_within(
-        Ceilings {
-            episodes: 200,
-            words: 4096,
-        },
-        log,
-        out,
-        work,
-    )
+    report_within(log::service_ceilings(), log, out, work)
 }
 
 // The outcome of a fair copy call: a copy with its count of words, or a refusal with its number and place. The words of a copy stay in the
@@ -104,12 +96,12 @@ pub enum CopyOutcome {
 }
 
 // The fair copy of a log that passes, in work words of which none is left as it was.
-fn copy(log: &[u32], n: usize, out: &mut [u32], w: &mut [u32]) -> usize
-    requires { ⌜ PassedWith (now log) n × (n ≤ 256) × (length (fairWords (graphOf (now log))) ≤ length (now out)) × (length (now w) ≡ workWords) ⌝ }
-    ensures { λ r. ⌜ (r ≡ length (fairWords (graphOf (now (log .entry))))) × BeginsWith (fairWords (graphOf (now (log .entry)))) (now (out .entry)) (now (out .exit)) × (now (w .exit) ≡ replicate (length (now (w .entry))) 0) ⌝ }
+fn copy(log: &[u32], n: usize, out: &mut [u32], work: &mut [u32]) -> usize
+    requires { ⌜ PassedWith (now log) n × (n ≤ 256) × (length (fairWords (graphOf (now log))) ≤ length (now out)) × (length (now work) ≡ workWords) ⌝ }
+    ensures { λ r. ⌜ (r ≡ length (fairWords (graphOf (now (log .entry))))) × BeginsWith (fairWords (graphOf (now (log .entry)))) (now (out .entry)) (now (out .exit)) × (now (work .exit) ≡ replicate (length (now (work .entry))) 0) ⌝ }
 {
-    let words = copying::write_copy(log, n, out, w);
-    bits::clear(w);
+    let words = copying::write_copy(log, n, out, work);
+    bits::clear(work);
     words
 }
 
@@ -138,15 +130,7 @@ fn fair_copy_within(most: Ceilings, log: &[u32], out: &mut [u32], work: &mut [u3
 pub fn fair_copy(log: &[u32], out: &mut [u32], work: &mut [u32]) -> CopyOutcome
     ensures { λ r. ⌜ CopyLeft service (now (log .entry)) (now (out .entry)) (now (work .entry)) (now (out .exit)) (now (work .exit)) r ⌝ }
 {
-    fair_copy_within(
-        Ceilings {
-            episodes: 200,
-            words: 4096,
-        },
-        log,
-        out,
-        work,
-    )
+    fair_copy_within(log::service_ceilings(), log, out, work)
 }
 
 // The number that asking for thread `i` of a report's words gives: 0, 16 where they are no whole report, or 17 where it has no thread `i`.

@@ -1,4 +1,5 @@
 // Logs of full size: 200 episodes, and 4,096 to words or one more.
+use crate::show::copy_outcome;
 use crate::show::outcome;
 use crate::show::reading;
 use crate::words::END;
@@ -18,6 +19,7 @@ fn first(name: &[u8], words: &[u32], n: usize) {
     if n <= words.len() {
         reading(name, &words[0..n]);
         outcome(name, &words[0..n]);
+        copy_outcome(name, &words[0..n]);
     }
 }
 

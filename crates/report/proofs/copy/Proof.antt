@@ -22,7 +22,7 @@ returns : tie.Need-returns
 returns c =
     let written = c .before .before .before .before .before .before .before .before in
     let s = written .before .before .before .before .before .before in
-    let same : length (written .write-copy .last .1 .1 .1 .0) ≡ length (s .args .w .now) = omega arith in
+    let same : length (written .write-copy .last .1 .1 .1 .0) ≡ length (s .args .work .now) = omega arith in
     (written .write-copy .ensures .0, written .write-copy .ensures .1, rw same at (c .before .before .clear .ensures))
 
 pub copy-spec : {M : Type 1} → statement M
