@@ -7,31 +7,26 @@ use native.Mathlib.Omega.{arith}
 use lib.ListN.{length, getD, set, take, drop, length-append, length-map, length-drop}
 use Rattle.paths.specs.Graph.{Graph}
 use Rattle.log.specs.Words.{word}
-use Rattle.log.specs.Log.{graphOf}
+use Rattle.log.specs.Log.{graphOf, PassedLog}
 use Rattle.log.proofs.Words.{number-lt}
-use Rattle.log.proofs.Laws.{well-formed, graph-episodes, graph-count}
+use Rattle.log.proofs.Laws.{well-formed, graph-count}
 use Rattle.writing.specs.Layout.{BeginsWith}
 use Rattle.writing.proofs.Buffers.{begins-itself, begins-first, begins-more, begins-length, begins-part, lent-part, lent-rest}
 use Rattle.copying.specs.FairCopy.{linkedTo, group, groups, groupLinks, fairWords}
-use Rattle.copying.specs.Copying.{PassedWith, groupLength, GroupWritten, GroupsWritten}
+use Rattle.copying.specs.Copying.{groupLength, GroupWritten, GroupsWritten}
 use Rattle.copying.proofs.Linked.{length-group, groups-more, length-fair, group-room}
 use Rattle.copying.proofs.GroupLinks.{linksOf, length-group-links}
 
 -- the numbers of a log that passes fit its words
-module _ (l : List ℕ) (n : ℕ) (passed : PassedWith l n) where
-  pub passed-episodes : graphOf l .n ≡ n
-  passed-episodes = let (m, t, e) = passed in graph-episodes m l n t e
+pub episodes-few : (l : List ℕ) → graphOf l .n < 2 ^ 28
+episodes-few l = number-lt (getD l 0 0)
 
-  pub episodes-few : n < 2 ^ 28
-  episodes-few = rw passed-episodes at (number-lt (getD l 0 0))
-
-  pub links-few : (k : ℕ) → length (groupLinks (graphOf l) k) < 2 ^ 28
-  links-few k =
-      let (m, t, e) = passed in
-      let count : length (graphOf l .links) ≡ t = graph-count m l n t e in
-      let few = number-lt (getD l (length l - 1) 0) in
-      let end = well-formed m l n t e .end-number in
-      omega (arith, length-group-links (graphOf l) k)
+pub links-few : (l : List ℕ) → PassedLog l → (k : ℕ) → length (groupLinks (graphOf l) k) < 2 ^ 28
+links-few l (m, n, t, e, few) k =
+    let count : length (graphOf l .links) ≡ t = graph-count m l n t e in
+    let fits = number-lt (getD l (length l - 1) 0) in
+    let end = well-formed m l n t e .end-number in
+    omega (arith, length-group-links (graphOf l) k)
 
 group-links-more : (g : Graph) (a : ℕ) → groupLinks g (a + 1) ≡ groupLinks g a ++ linksOf a (linkedTo a (g .links) (g .n))
 unfolding groupLinks

@@ -8,24 +8,13 @@ use lib.Dec.{eqb}
 use lib.ListN.{length, getD, set}
 use Rattle.paths.specs.Graph.{Graph}
 use Rattle.log.specs.Words.{kind, number}
-use Rattle.log.specs.Answer.{given}
-use Rattle.log.specs.Log.{questions}
-use Rattle.log.specs.declared.Ceilings.{Ceilings}
 use Rattle.copying.specs.FairCopy.{linked, group, groups, groupLinks}
 use Rattle.writing.specs.Layout.{BeginsWith}
-
--- the log passes questions 1 to 10 with `n` episodes, at some ceilings
-abbrev pub PassedWith : List ℕ → ℕ → Type 0
-PassedWith l n = (m : Ceilings) × (t : ℕ) × (questions m l ≡ given (n, t))
 
 -- 1 where the link is there, 0 where it is not
 abbrev pub mark : Bool → ℕ
 mark true = 1
 mark false = 0
-
--- the row holds the mark of each link from `a`
-abbrev pub Marks : ℕ → List (ℕ × ℕ) → List ℕ → Type 0
-Marks a ls row = (b : ℕ) → b < length row → getD row b 0 ≡ mark (linked a b ls)
 
 -- the words of a block: a row of 256 words for each of 64 episodes
 abbrev pub blockWords : ℕ
@@ -36,8 +25,8 @@ abbrev pub rowAt : ℕ → ℕ
 rowAt a = a % 64 * 256
 
 -- the rows of the episodes of the block hold the marks of the links from them
-abbrev pub BlockMarks : ℕ → ℕ → List (ℕ × ℕ) → List ℕ → Type 0
-BlockMarks block n ls w = (a b : ℕ) → a / 64 ≡ block → b < n → getD w (rowAt a + b) 0 ≡ mark (linked a b ls)
+abbrev pub BlockMarks : ℕ → Graph → List ℕ → Type 0
+BlockMarks block g w = (a b : ℕ) → a / 64 ≡ block → b < g .n → getD w (rowAt a + b) 0 ≡ mark (linked a b (g .links))
 
 -- the word `x` between head and end is taken for the block: `from` becomes `r`
 pub record WordTaken (x from block r : ℕ) (w w′ : List ℕ) : Type 0 where

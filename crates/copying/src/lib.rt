@@ -5,10 +5,10 @@ ghost use mathlib.Core.Logic.{_≢_};
 ghost use Prim.Native.Nat.{_/_, _%_, _^_, _<_, _≤_};
 ghost use lib.ListN.{length, replicate};
 ghost use Rattle.log.specs.Words.{number};
-ghost use Rattle.log.specs.Log.{graphOf};
+ghost use Rattle.log.specs.Log.{graphOf, PassedLog};
 ghost use Rattle.writing.specs.Layout.{BeginsWith};
 ghost use Rattle.copying.specs.FairCopy.{linkedTo, group, fairWords};
-ghost use Rattle.copying.specs.Copying.{PassedWith, blockWords, BlockMarks, WordTaken, marked, groupLength, GroupWritten, GroupsWritten};
+ghost use Rattle.copying.specs.Copying.{blockWords, BlockMarks, WordTaken, marked, groupLength, GroupWritten, GroupsWritten};
 
 // Takes a word between head and end: a from word's number is given back, and a to word is marked in the row of `from` if that is in the
 // block.
@@ -27,9 +27,9 @@ fn take_word(word: u32, from: usize, block: usize, w: &mut [u32]) -> usize
 }
 
 // Marks the links of a log from the episodes of a block, in words that are zero.
-fn mark_block(log: &[u32], n: usize, block: usize, w: &mut [u32])
-    requires { ⌜ PassedWith (now log) n × (n ≤ 256) × (length (now w) ≡ blockWords) × (now w ≡ replicate (length (now w)) 0) ⌝ }
-    ensures { λ _. ⌜ BlockMarks block n (graphOf (now (log .entry)) .links) (now (w .exit)) ⌝ }
+fn mark_block(log: &[u32], block: usize, w: &mut [u32])
+    requires { ⌜ PassedLog (now log) × (length (now w) ≡ blockWords) × (now w ≡ replicate (length (now w)) 0) ⌝ }
+    ensures { λ _. ⌜ BlockMarks block (graphOf (now (log .entry))) (now (w .exit)) ⌝ }
 {
     let mut from = 0;
     let mut at = 1;
@@ -40,13 +40,13 @@ fn mark_block(log: &[u32], n: usize, block: usize, w: &mut [u32])
 }
 
 // The marks of the block that `a` is in, made where it is the first episode there.
-fn block_of(log: &[u32], n: usize, a: usize, w: &mut [u32])
-    requires { ⌜ PassedWith (now log) n × (n ≤ 256) × (length (now w) ≡ blockWords) × (a % 64 ≢ 0 → BlockMarks (a / 64) n (graphOf (now log) .links) (now w)) ⌝ }
-    ensures { λ _. ⌜ BlockMarks (a / 64) n (graphOf (now (log .entry)) .links) (now (w .exit)) ⌝ }
+fn block_of(log: &[u32], a: usize, w: &mut [u32])
+    requires { ⌜ PassedLog (now log) × (length (now w) ≡ blockWords) × (a % 64 ≢ 0 → BlockMarks (a / 64) (graphOf (now log)) (now w)) ⌝ }
+    ensures { λ _. ⌜ BlockMarks (a / 64) (graphOf (now (log .entry))) (now (w .exit)) ⌝ }
 {
     if a % 64 == 0 {
         bits::clear(w);
-        mark_block(log, n, a / 64, w);
+        mark_block(log, a / 64, w);
     }
 }
 
@@ -72,12 +72,12 @@ fn write_group(row: &[u32], a: usize, out: &mut [u32]) -> usize
 
 // The links of `a`, marked and written.
 fn copy_row(log: &[u32], n: usize, a: usize, out: &mut [u32], w: &mut [u32]) -> usize
-    requires { ⌜ PassedWith (now log) n × (n ≤ 256) × (length (now w) ≡ blockWords) × (a % 64 ≢ 0 → BlockMarks (a / 64) n (graphOf (now log) .links) (now w))
+    requires { ⌜ PassedLog (now log) × (graphOf (now log) .n ≡ n) × (n ≤ 256) × (length (now w) ≡ blockWords) × (a % 64 ≢ 0 → BlockMarks (a / 64) (graphOf (now log)) (now w))
         × (a < n) × (length (group a (linkedTo a (graphOf (now log) .links) n)) < length (now out)) ⌝ }
-    ensures { λ r. ⌜ BlockMarks (a / 64) n (graphOf (now (log .entry)) .links) (now (w .exit))
+    ensures { λ r. ⌜ BlockMarks (a / 64) (graphOf (now (log .entry))) (now (w .exit))
         × GroupWritten a (linkedTo a (graphOf (now (log .entry)) .links) n) (now (out .entry)) (now (out .exit)) r ⌝ }
 {
-    block_of(log, n, a, w);
+    block_of(log, a, w);
     let row = a % 64 * 256;
     write_group(&w[row..row + n], a, out)
 }
@@ -98,7 +98,7 @@ struct Written {
 
 // Writes the groups of all episodes behind the first word.
 fn write_groups(log: &[u32], n: usize, out: &mut [u32], w: &mut [u32]) -> Written
-    requires { ⌜ PassedWith (now log) n × (n ≤ 256) × (length (now w) ≡ blockWords) × (length (fairWords (graphOf (now log))) ≤ length (now out)) ⌝ }
+    requires { ⌜ PassedLog (now log) × (graphOf (now log) .n ≡ n) × (length (now w) ≡ blockWords) × (length (fairWords (graphOf (now log))) ≤ length (now out)) ⌝ }
     ensures { λ r. ⌜ GroupsWritten (graphOf (now (log .entry))) (now (out .entry)) (now (out .exit)) (r .words) (r .links) ⌝ }
 {
     let mut words = 1;
@@ -115,7 +115,7 @@ fn write_groups(log: &[u32], n: usize, out: &mut [u32], w: &mut [u32]) -> Writte
 
 // Writes the fair copy of a log that passes with `n` episodes, and gives its count of words.
 pub fn write_copy(log: &[u32], n: usize, out: &mut [u32], w: &mut [u32]) -> usize
-    requires { ⌜ PassedWith (now log) n × (n ≤ 256) × (length (now w) ≡ blockWords) × (length (fairWords (graphOf (now log))) ≤ length (now out)) ⌝ }
+    requires { ⌜ PassedLog (now log) × (graphOf (now log) .n ≡ n) × (length (now w) ≡ blockWords) × (length (fairWords (graphOf (now log))) ≤ length (now out)) ⌝ }
     ensures { λ r. ⌜ (r ≡ length (fairWords (graphOf (now (log .entry))))) × BeginsWith (fairWords (graphOf (now (log .entry)))) (now (out .entry)) (now (out .exit)) ⌝ }
 {
     let groups = write_groups(log, n, out, w);

@@ -1,8 +1,9 @@
 -- The laws of a log `l` that passes questions 1 to 10 with `n` episodes and `t` to words: what other crates cite.
 use mathlib.Core.Path.{_≡_, _∙_, sym}
-use mathlib.Core.Logic.{⊎-elim}
+use mathlib.Core.Logic.{_≢_, ⊎-elim}
 use mathlib.Core.List.{List, [], _∷_, _++_}
 use Prim.Native.Nat.{ℕ, zero, suc, _+_, _-_, _<_, _≤_}
+use native.Mathlib.Decide.{ℕ-discrete}
 use native.Mathlib.Omega.{arith}
 use lib.ListN.{length, getD, drop}
 use Rattle.paths.specs.Graph.{EndsBelow}
@@ -40,6 +41,17 @@ module _ (m : Ceilings) (l : List ℕ) (n t : ℕ) (e : questions m l ≡ given 
 
   pub links-below : EndsBelow (graphOf l)
   links-below = forms.links-below m l n t e
+
+  -- a word between head and end that is no from word is a to word, and not the first behind the head
+  pub to-word : (p : ℕ) → 0 < p → p + 1 < length l → kind (getD l p 0) ≢ 2 → (kind (getD l p 0) ≡ 3) × (1 < p)
+  to-word p behind inner other = (⊎-elim (λ k. absurd (other k)) (λ k. k) (form .between p behind inner), later (ℕ-discrete p 1))
+    where
+      form : WellFormed m l n t
+      form = forms.well-formed m l n t e
+
+      later : Dec (p ≡ 1) → 1 < p
+      later (yes first) = absurd (other (rw first (form .starts (omega arith))))
+      later (no ne) = omega arith
 
 -- Passing over the words behind the head, in order. At place 1 no link has been seen; a from word changes the nearest from word, and a
 -- to word adds its link; at the last word the links that have been seen are the graph's.

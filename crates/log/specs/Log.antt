@@ -1,7 +1,8 @@
 -- A log: questions 1 to 10, and the graph that its words describe.
+use mathlib.Core.Path.{_≡_}
 use mathlib.Core.Bool.{Bool, true, false, not, _&&_, _||_}
 use mathlib.Core.List.{List, [], _∷_}
-use Prim.Native.Nat.{ℕ, _+_}
+use Prim.Native.Nat.{ℕ, _+_, _≤_}
 use lib.Dec.{leb, ltb, eqb}
 use lib.ListN.{length, getD, drop}
 use Rattle.paths.specs.Graph.{Graph}
@@ -83,3 +84,7 @@ linksFrom a (w ∷ rest) =
 -- the graph of a log
 abbrev pub graphOf : List ℕ → Graph
 graphOf l = record { n = number (getD l 0 0); links = linksFrom 0 (drop 1 l) }
+
+-- the log passes questions 1 to 10, at some ceilings, with at most 256 episodes
+abbrev pub PassedLog : List ℕ → Type 0
+PassedLog l = (m : Ceilings) × (n : ℕ) × (t : ℕ) × (questions m l ≡ given (n, t)) × (n ≤ 256)

@@ -1,6 +1,6 @@
 -- Marking links: one link in both matrices, and the links of a log word by word.
 use mathlib.Core.Path.{_≡_, ap}
-use mathlib.Core.Logic.{_⊎_, ⊎-elim, inl, inr}
+use mathlib.Core.Logic.{_⊎_, inl, inr}
 use mathlib.Core.List.{
   List,
   [],
@@ -20,11 +20,12 @@ use native.Mathlib.Omega.{arith}
 use lib.ListN.{length, getD}
 use Rattle.log.specs.Words.{kind, number}
 use Rattle.log.proofs.Links.{linksBefore, nearestFrom}
-use Rattle.log.proofs.Laws.{well-formed, before-head, pass-from, pass-to, links-passed}
+use Rattle.log.proofs.Laws.{well-formed, to-word, before-head, pass-from, pass-to, links-passed}
 use Rattle.bits.specs.Bits.{bit, BitSet}
 use Rattle.bits.specs.Work.{linksAt, waysAt, Matrix, Outside, nextAt, matrixWords}
 use Rattle.bits.proofs.Rows.{bit-word, bits-zero}
-use Rattle.reach.specs.Reach.{PassedLog, Marked, WordTaken, LinksMarked}
+use Rattle.log.specs.Log.{PassedLog}
+use Rattle.reach.specs.Reach.{Marked, WordTaken, LinksMarked}
 use Rattle.bits.proofs.Frames.{outside-none, outside-then, set-other}
 
 -- the link's bit is set in one matrix, then in the other
@@ -116,24 +117,12 @@ module _ (l w w′ : List ℕ) (from p : ℕ) (passed : PassedLog l) (s : Markin
       let b : number (getD l p 0) < n = well-formed m l n t e .below p (s .behind) inner in
       omega arith
 
-  is-to : (kind (getD l p 0) ≡ 2 → ⊥) → kind (getD l p 0) ≡ 3
-  is-to other =
-      let (m, n, t, e, few) = passed in
-      ⊎-elim (λ k. absurd (other k)) (λ k. k) (well-formed m l n t e .between p (s .behind) inner)
-
-  -- a to word is not the first word behind the head
-  later : (kind (getD l p 0) ≡ 2 → ⊥) → 1 < p
-  later other = go (ℕ-discrete p 1)
-    where
-      go : Dec (p ≡ 1) → 1 < p
-      go (yes e) =
-          let (m, n, t, q, few) = passed in
-          absurd (other (rw e (well-formed m l n t q .starts (omega arith))))
-      go (no ne) = omega (arith, s .behind)
+  to-here : (kind (getD l p 0) ≡ 2 → ⊥) → (kind (getD l p 0) ≡ 3) × (1 < p)
+  to-here other = let (m, n, t, e, few) = passed in to-word m l n t e p (s .behind) inner other
 
   -- before a to word a from word has come
   pub from-below : (kind (getD l p 0) ≡ 2 → ⊥) → from < 256
-  from-below other = s .nearest (later other) .1
+  from-below other = s .nearest (to-here other .1) .1
 
   pub marking-on : {r : ℕ} {w″ : List ℕ} → WordTaken (getD l p 0) from r w′ w″ → Marking l w w″ r (p + 1)
   marking-on {r} {w″} d = go (ℕ-discrete (kind (getD l p 0)) 2)
@@ -151,8 +140,8 @@ module _ (l w w′ : List ℕ) (from p : ℕ) (passed : PassedLog l) (s : Markin
             nearest = λ h. (cc, rw new number-below);
           }
       go (no other) =
-          let (more, near) = pass-to l p (s .behind) (s .within) (is-to other) in
-          let (is-nearest, low) = s .nearest (later other) in
+          let (more, near) = pass-to l p (s .behind) (s .within) (to-here other .0) in
+          let (is-nearest, low) = s .nearest (to-here other .1) in
           let (same, q) = d .of-to other in
           record {
             outside = outside-then (s .outside) (q .outside);

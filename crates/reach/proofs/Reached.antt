@@ -3,9 +3,9 @@ use mathlib.Core.Path.{_≡_}
 use mathlib.Core.List.{List}
 use Prim.Native.Nat.{ℕ}
 use native.Mathlib.Omega.{arith}
-use Rattle.log.specs.Log.{graphOf}
+use Rattle.log.specs.Log.{graphOf, PassedLog}
 use Rattle.log.proofs.Laws.{links-below}
-use Rattle.reach.specs.Reach.{PassedLog, LinksMarked, Closed, ReachedLog}
+use Rattle.reach.specs.Reach.{LinksMarked, Closed, ReachedLog}
 use Rattle.bits.proofs.Frames.{outside-then, outside-wider, matrix-before}
 
 pub reached : {w w′ w″ : List ℕ} (l : List ℕ) (n : ℕ) → PassedLog l → graphOf l .n ≡ n → LinksMarked l w w′ → Closed w′ w″ n

@@ -6,15 +6,9 @@ use lib.ListN.{getD}
 use Rattle.paths.specs.Graph.{Graph, EndsBelow, Link, Way}
 use Rattle.paths.specs.Closure.{WayBelow}
 use Rattle.log.specs.Words.{kind, number}
-use Rattle.log.specs.Answer.{given}
-use Rattle.log.specs.Log.{questions, graphOf}
-use Rattle.log.specs.declared.Ceilings.{Ceilings}
+use Rattle.log.specs.Log.{graphOf}
 use Rattle.bits.specs.Bits.{bit}
 use Rattle.bits.specs.Work.{linksAt, waysAt, Matrix, Outside, nextAt}
-
--- the log passes questions 1 to 10 at some ceilings of at most 256 episodes
-abbrev pub PassedLog : List ℕ → Type 0
-PassedLog l = (m : Ceilings) × (n : ℕ) × (t : ℕ) × (questions m l ≡ given (n, t)) × (n ≤ 256)
 
 -- the words of both matrices are zero
 abbrev pub NoneMarked : List ℕ → Type 0

@@ -3,9 +3,9 @@ ghost use mathlib.Core.Path.{_≡_};
 ghost use Prim.Native.Nat.{_+_, _*_, _<_, _≤_};
 ghost use lib.ListN.{length};
 ghost use Rattle.log.specs.Words.{kind, number};
-ghost use Rattle.log.specs.Log.{graphOf};
+ghost use Rattle.log.specs.Log.{graphOf, PassedLog};
 ghost use Rattle.bits.specs.Work.{nextAt};
-ghost use Rattle.reach.specs.Reach.{PassedLog, NoneMarked, Marked, WordTaken, LinksMarked, RowClosed, RoundClosed, Closed, ReachedLog, FirstLoop};
+ghost use Rattle.reach.specs.Reach.{NoneMarked, Marked, WordTaken, LinksMarked, RowClosed, RoundClosed, Closed, ReachedLog, FirstLoop};
 use bits::LINKS;
 use bits::WAYS;
 

@@ -6,13 +6,13 @@ use native.Mathlib.Omega.{arith}
 use lib.ListN.{length, take, drop, replicate}
 use lib.Seq.{length-take-le}
 use Rattle.log.specs.Answer.{Answer, given, refused, readAnswer}
-use Rattle.log.specs.Log.{questions, graphOf}
+use Rattle.log.specs.Log.{questions, graphOf, PassedLog}
 use Rattle.log.specs.declared.Ceilings.{Ceilings}
 use Rattle.log.specs.declared.Reading.{Reading}
 use Rattle.log.proofs.Laws.{few-episodes, graph-episodes, links-below}
 use Rattle.bits.specs.Work.{usedWords}
 use Rattle.bits.proofs.Frames.{Cleared}
-use Rattle.reach.specs.Reach.{PassedLog, ReachedLog}
+use Rattle.reach.specs.Reach.{ReachedLog}
 use Rattle.writing.specs.Layout.{reportNeed}
 use Rattle.report.specs.Report.{workWords, cleared, Passes, Left}
 use Rattle.report.specs.Solving.{Ready, Answered}

@@ -3,12 +3,10 @@ ghost use mathlib.Core.Path.{_≡_};
 ghost use Prim.Native.Nat.{_+_, _<_, _≤_};
 ghost use lib.ListN.{length, replicate};
 ghost use Rattle.paths.specs.Graph.{Graph};
-ghost use Rattle.log.specs.Log.{service, graphOf};
-ghost use Rattle.reach.specs.Reach.{PassedLog};
+ghost use Rattle.log.specs.Log.{service, graphOf, PassedLog};
 ghost use Rattle.writing.specs.Layout.{reportNeed, BeginsWith};
 ghost use Rattle.parsing.specs.Whole.{ThreadNumber, ThreadSteps};
 ghost use Rattle.copying.specs.FairCopy.{fairWords};
-ghost use Rattle.copying.specs.Copying.{PassedWith};
 ghost use Rattle.report.specs.Report.{workWords, Left};
 ghost use Rattle.report.specs.Solving.{Ready, Answered};
 ghost use Rattle.report.specs.Copied.{CopyLeft};
@@ -97,7 +95,7 @@ pub enum CopyOutcome {
 
 // The fair copy of a log that passes, in work words of which none is left as it was.
 fn copy(log: &[u32], n: usize, out: &mut [u32], work: &mut [u32]) -> usize
-    requires { ⌜ PassedWith (now log) n × (n ≤ 256) × (length (fairWords (graphOf (now log))) ≤ length (now out)) × (length (now work) ≡ workWords) ⌝ }
+    requires { ⌜ PassedLog (now log) × (graphOf (now log) .n ≡ n) × (length (fairWords (graphOf (now log))) ≤ length (now out)) × (length (now work) ≡ workWords) ⌝ }
     ensures { λ r. ⌜ (r ≡ length (fairWords (graphOf (now (log .entry))))) × BeginsWith (fairWords (graphOf (now (log .entry)))) (now (out .entry)) (now (out .exit)) × (now (work .exit) ≡ replicate (length (now (work .entry))) 0) ⌝ }
 {
     let words = copying::write_copy(log, n, out, work);

@@ -13,8 +13,8 @@ mark-block-requires : tie.Need-mark-block-requires
 mark-block-requires c κs =
     let s = c .before .before .before .before .before .before .before .before in
     let zero = c .before .before .before .clear in
-    let clean = cleared-block (s .args .w .now) (zero .last .0) (s .pre .2) (zero .ensures) in
-    (s .pre .0, s .pre .1, clean .0, clean .1)
+    let clean = cleared-block (s .args .w .now) (zero .last .0) (s .pre .1) (zero .ensures) in
+    (s .pre .0, clean .0, clean .1)
 
 same-length : tie.Need-same-length
 same-length c = search needs
@@ -23,7 +23,7 @@ returns : tie.Need-returns
 returns c = search needs
 
 returns-2 : tie.Need-returns-2
-returns-2 c = c .before .before .before .pre .3 (λ e. omega arith)
+returns-2 c = c .before .before .before .pre .2 (λ e. omega arith)
 
 pub block-of-spec : {M : Type 1} → statement M
 block-of-spec =

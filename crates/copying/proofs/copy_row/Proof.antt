@@ -37,9 +37,8 @@ write-group-requires c κs =
     let at = c .before .before .before .before .before in
     let s = start at in
     let row =
-    row-marks (s .args .a) (s .args .n) (graphOf (s .args .log .now) .links) (at .block-of .last .1 .1 .1 .0) (s .pre .1) (omega arith)
-    (at .block-of .ensures) in
-    (rw (row .1) (s .pre .5), omega (arith, row .0), omega (arith, row .0))
+    row-marks (graphOf (s .args .log .now)) (s .args .a) (s .args .n) (at .block-of .last .1 .1 .0) (s .pre .1) (s .pre .2) (omega arith) (at .block-of .ensures) in
+    (rw (row .1) (s .pre .6), omega (arith, row .0), omega (arith, row .0))
 
 same-length : tie.Need-same-length
 same-length c = search needs
@@ -52,8 +51,7 @@ returns c =
     let at = c .before .before .before .before .before .before .before .before in
     let s = start at in
     let row =
-    row-marks (s .args .a) (s .args .n) (graphOf (s .args .log .now) .links) (at .block-of .last .1 .1 .1 .0) (s .pre .1) (omega arith)
-    (at .block-of .ensures) in
+    row-marks (graphOf (s .args .log .now)) (s .args .a) (s .args .n) (at .block-of .last .1 .1 .0) (s .pre .1) (s .pre .2) (omega arith) (at .block-of .ensures) in
     (at .block-of .ensures, rw (row .1) at (c .before .before .write-group .ensures))
 
 pub copy-row-spec : {M : Type 1} → statement M

@@ -10,15 +10,15 @@ use Rattle.copying.proofs.mark_block.Statement.{statement}
 use Rattle.copying.proofs.mark_block.Tie as tie
 
 abbrev Inv-loop : tie.InvT-loop
-Inv-loop log n block w₀ from₀ at₀ w from at = Marking log w₀ w n block from at
+Inv-loop log block w₀ from₀ at₀ w from at = Marking log w₀ w block from at
 
 abbrev μ-loop : tie.MeasureT-loop
-μ-loop log n block w₀ from₀ at₀ w from at = length log - at
+μ-loop log block w₀ from₀ at₀ w from at = length log - at
 
 loop-holds : tie.Need-loop-holds Inv-loop μ-loop
 loop-holds c =
     let s = c .before .before in
-    marking-start (s .args .log .now) (s .args .w .now) (s .args .n) (s .args .block) (s .pre .0) (s .pre .1) (s .pre .2) (s .pre .3)
+    marking-start (s .args .log .now) (s .args .w .now) (s .args .block) (s .pre .0) (s .pre .1) (s .pre .2)
 
 add-loop : tie.Need-add-loop Inv-loop μ-loop
 add-loop c = omega arith
@@ -33,9 +33,9 @@ take-word-requires : tie.Need-take-word-requires Inv-loop μ-loop
 take-word-requires c κs =
     let s = c .before .before .before .before .before .before in
     let at = c .before .before .before .loop in (
-      number-below (s .args .log .now) (s .args .w .now) (at .w) (s .args .n) (s .args .block) (at .from) (at .at) (s .pre .0) (s .pre .1) (at .inv)
+      number-below (s .args .log .now) (s .args .w .now) (at .w) (s .args .block) (at .from) (at .at) (s .pre .0) (at .inv)
           (omega arith),
-      at .inv .same-length ∙ s .pre .2,
+      at .inv .same-length ∙ s .pre .1,
     )
 
 add-at : tie.Need-add-at Inv-loop μ-loop
@@ -48,8 +48,8 @@ loop-again : tie.Need-loop-again Inv-loop μ-loop
 loop-again c =
     let s = c .before .before .before .before .before .before .before .before .before in
     let at = c .before .before .before .before .before .before .loop in
-    marking-on (s .args .log .now) (s .args .w .now) (at .w) (s .args .n) (s .args .block) (at .from) (at .at) (s .pre .0) (s .pre .1) (at .inv)
-    (omega arith) (s .pre .2) (c .before .before .take-word .ensures)
+    marking-on (s .args .log .now) (s .args .w .now) (at .w) (s .args .block) (at .from) (at .at) (s .pre .0) (at .inv)
+    (omega arith) (s .pre .1) (c .before .before .take-word .ensures)
 
 same-length : tie.Need-same-length Inv-loop μ-loop
 same-length c = omega arith
@@ -58,7 +58,7 @@ returns : tie.Need-returns Inv-loop μ-loop
 returns c =
     let s = c .before .before .before .before in
     let at = c .before .loop in
-    marking-end (s .args .log .now) (s .args .w .now) (at .w) (s .args .n) (s .args .block) (at .from) (at .at) (s .pre .0) (at .inv) (omega arith)
+    marking-end (s .args .log .now) (s .args .w .now) (at .w) (s .args .block) (at .from) (at .at) (s .pre .0) (at .inv) (omega arith)
 
 pub mark-block-spec : {M : Type 1} → statement M
 mark-block-spec =

@@ -5,7 +5,7 @@ use native.Mathlib.Omega.{arith}
 use lib.ListN.{length-set}
 use borrow.Author.Needs.{needs}
 use Rattle.log.specs.Log.{graphOf}
-use Rattle.copying.proofs.Copies.{passed-episodes, episodes-few, links-few, end-room, copy-whole}
+use Rattle.copying.proofs.Copies.{episodes-few, links-few, end-room, copy-whole}
 use Rattle.copying.proofs.write_copy.Statement.{statement}
 use Rattle.copying.proofs.write_copy.Tie as tie
 
@@ -14,11 +14,11 @@ abbrev start : tie.After-slice-known4 → tie.Start
 start c = c .before .before .before .before .before .before .before .before .before .before
 
 few-episodes : (c : tie.After-slice-known4) → start c .args .n < 2 ^ 28
-few-episodes c = episodes-few (start c .args .log .now) _ (start c .pre .0)
+few-episodes c = omega (arith, episodes-few (start c .args .log .now), start c .pre .1)
 
 few-links : (c : tie.After-slice-known4) → c .before .before .before .before .write-groups .result .links < 2 ^ 28
 few-links c =
-    let few = links-few (start c .args .log .now) _ (start c .pre .0) (graphOf (start c .args .log .now) .n) in
+    let few = links-few (start c .args .log .now) (start c .pre .0) (graphOf (start c .args .log .now) .n) in
     omega (arith, c .before .before .before .before .write-groups .ensures .link-count)
 
 write-groups-requires : tie.Need-write-groups-requires
@@ -62,7 +62,7 @@ returns : tie.Need-returns
 returns c =
     let written = c .before .before .before .before .write-groups in
     copy-whole (graphOf (start c .args .log .now)) (start c .args .out .now) (written .last .1 .1 .0) (written .result .words) (written .result .links)
-    (start c .pre .3) (written .ensures) _ (passed-episodes (start c .args .log .now) _ (start c .pre .0))
+    (start c .pre .3) (written .ensures) _ (start c .pre .1)
 
 pub write-copy-spec : {M : Type 1} → statement M
 write-copy-spec =

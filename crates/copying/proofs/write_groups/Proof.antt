@@ -11,7 +11,7 @@ use Rattle.log.specs.Log.{graphOf}
 use Rattle.copying.specs.FairCopy.{linkedTo}
 use Rattle.copying.specs.Copying.{BlockMarks, GroupWritten}
 use Rattle.copying.proofs.Linked.{length-linkedTo}
-use Rattle.copying.proofs.Rows.{next-block}
+use Rattle.copying.proofs.Rows.{passed-few, next-block}
 use Rattle.copying.proofs.Copies.{
   Copying,
   copying-none,
@@ -20,7 +20,6 @@ use Rattle.copying.proofs.Copies.{
   copying-room,
   copying-on,
   copying-all,
-  passed-episodes,
   episodes-few,
   links-few,
   group-length-few,
@@ -30,7 +29,7 @@ use Rattle.copying.proofs.write_groups.Tie as tie
 
 abbrev Inv-loop : tie.InvT-loop
 Inv-loop log n out₀ w₀ words₀ links₀ a₀ out w words links a =
-    (length w ≡ length w₀) × (a % 64 ≢ 0 → BlockMarks (a / 64) n (graphOf log .links) w) × Copying (graphOf log) out₀ out words links a
+    (length w ≡ length w₀) × (a % 64 ≢ 0 → BlockMarks (a / 64) (graphOf log) w) × Copying (graphOf log) out₀ out words links a
 
 abbrev μ-loop : tie.MeasureT-loop
 μ-loop log n out₀ w₀ words₀ links₀ a₀ out w words links a = n - a
@@ -44,9 +43,6 @@ loop-holds c =
 abbrev start : tie.At-loop Inv-loop μ-loop → tie.Start Inv-loop μ-loop
 start c = c .before .before .before .before
 
-episodes : (c : tie.At-loop Inv-loop μ-loop) → graphOf (start c .args .log .now) .n ≡ start c .args .n
-episodes c = passed-episodes (start c .args .log .now) _ (start c .pre .0)
-
 -- the words have room in the output, and an episode has few links
 within : (c : tie.At-loop Inv-loop μ-loop) → c .loop .words ≤ length (c .loop .out)
 within c = copying-at (c .loop .inv .2) (start c .pre .3)
@@ -54,9 +50,9 @@ within c = copying-at (c .loop .inv .2) (start c .pre .3)
 few-links : (c : tie.At-loop Inv-loop μ-loop) {o o′ : List ℕ} {r : ℕ}
     → GroupWritten (c .loop .a) (linkedTo (c .loop .a) (graphOf (start c .args .log .now) .links) (start c .args .n)) o o′ r → r < 2 ^ 28
 few-links c {r = r} g =
-    let few = episodes-few (start c .args .log .now) _ (start c .pre .0) in
+    let few = episodes-few (start c .args .log .now) in
     let most = length-linkedTo (c .loop .a) (graphOf (start c .args .log .now) .links) (start c .args .n) in
-    omega (arith, g .count)
+    omega (arith, g .count, start c .pre .1)
 
 mul-copy-row : tie.Need-mul-copy-row Inv-loop μ-loop
 mul-copy-row c = omega (arith, within (c .before))
@@ -75,10 +71,11 @@ copy-row-requires c κs =
     let at = c .before .before .before in (
       start at .pre .0,
       start at .pre .1,
+      omega (arith, passed-few (start at .args .log .now) (start at .pre .0), start at .pre .1),
       at .loop .inv .0 ∙ start at .pre .2,
       at .loop .inv .1,
       omega arith,
-      copying-room (at .loop .inv .2) (start at .pre .3) _ (episodes at) (omega arith),
+      copying-room (at .loop .inv .2) (start at .pre .3) _ (start at .pre .1) (omega arith),
     )
 
 group-words-requires : tie.Need-group-words-requires Inv-loop μ-loop
@@ -95,7 +92,7 @@ add-links : tie.Need-add-links Inv-loop μ-loop
 add-links c =
     let at = c .before .before .before .before .before .before .before .before .before in
     let few = few-links at (c .before .before .before .before .before .copy-row .ensures .1) in
-    omega (arith, at .loop .inv .2 .count, links-few (start at .args .log .now) _ (start at .pre .0) (at .loop .a))
+    omega (arith, at .loop .inv .2 .count, links-few (start at .args .log .now) (start at .pre .0) (at .loop .a))
 
 add-a : tie.Need-add-a Inv-loop μ-loop
 add-a c = omega arith
@@ -108,8 +105,8 @@ loop-again c =
     let at = c .before .before .before .before .before .before .before .before .before in
     let row = c .before .before .before .before .before .copy-row in (
       omega arith,
-      next-block (at .loop .a) (start at .args .n) (graphOf (start at .args .log .now) .links) (row .last .1 .1 .1 .1 .0) (row .ensures .0),
-      copying-on (at .loop .inv .2) (start at .pre .3) _ (episodes at) (omega arith) (row .ensures .1) refl (c .group-words .ensures),
+      next-block (at .loop .a) (graphOf (start at .args .log .now)) (row .last .1 .1 .1 .1 .0) (row .ensures .0),
+      copying-on (at .loop .inv .2) (start at .pre .3) _ (start at .pre .1) (omega arith) (row .ensures .1) refl (c .group-words .ensures),
     )
 
 same-length : tie.Need-same-length Inv-loop μ-loop
@@ -119,7 +116,7 @@ same-length-2 : tie.Need-same-length-2 Inv-loop μ-loop
 same-length-2 c = c .before .loop .inv .0
 
 returns : tie.Need-returns Inv-loop μ-loop
-returns c = copying-all (c .before .loop .inv .2) (start (c .before) .pre .3) _ (episodes (c .before)) (omega arith)
+returns c = copying-all (c .before .loop .inv .2) (start (c .before) .pre .3) _ (start (c .before) .pre .1) (omega arith)
 
 pub write-groups-spec : {M : Type 1} → statement M
 write-groups-spec =

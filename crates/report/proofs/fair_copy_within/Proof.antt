@@ -7,7 +7,7 @@ use native.Mathlib.Omega.{arith}
 use lib.Seq.{length-take-le}
 use Rattle.log.specs.Answer.{given}
 use Rattle.log.specs.Log.{questions}
-use Rattle.log.proofs.Laws.{few-episodes}
+use Rattle.log.proofs.Laws.{few-episodes, graph-episodes}
 use Rattle.copying.proofs.FairCopies.{copy-fits}
 use Rattle.report.specs.Report.{workWords}
 use Rattle.report.proofs.Calls.{told, work-cleared}
@@ -72,8 +72,12 @@ copy-requires c κs =
     let s = start at in
     let v = at .n .given .0 in
     let fits = copy-fits (s .args .most) (s .args .log .now) (v .0) (v .1 .0) (passed at) in
-    let few = few-episodes (s .args .most) (s .args .log .now) (v .0) (v .1 .0) (passed at) in
-    ((s .args .most, v .1 .0, passed at), omega (arith, s .pre), omega arith, length-take-le workWords (s .args .work .now) (omega arith))
+    let few = few-episodes (s .args .most) (s .args .log .now) (v .0) (v .1 .0) (passed at) in (
+      (s .args .most, v .0, v .1 .0, passed at, omega (arith, s .pre)),
+      graph-episodes (s .args .most) (s .args .log .now) (v .0) (v .1 .0) (passed at),
+      omega arith,
+      length-take-le workWords (s .args .work .now) (omega arith),
+    )
 
 returns-3 : tie.Need-returns-3
 returns-3 c =
