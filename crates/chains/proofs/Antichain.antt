@@ -17,8 +17,9 @@ use lib.ListN.{length}
 use Rattle.order.specs.Order.{All, On, StrictOrder, Chain, single, more, Antichain}
 use Rattle.order.proofs.Lists.{all-nil, all-cons}
 use Rattle.order.proofs.Pigeonhole.{antichain-le-chains, chain-holds-one}
-use Rattle.chains.specs.Items.{Tables, Matching, Steps, stay, go as ahead, Open, Reached, from-end, from-next, Exhausted, members}
-use Rattle.chains.proofs.Members.{member-below, member-test, test-member, members-nodup, member-open, open-member}
+use Rattle.chains.specs.Items.{Tables, Matching, Steps, stay, go as ahead, Open, Reached, from-end, from-next, Exhausted, memberTest, members}
+use Rattle.chains.proofs.Members.{member-open, open-member}
+use Rattle.paths.proofs.Passing.{passing-below, passing-test, test-passing, passing-nodup}
 use Rattle.chains.proofs.Steps.{
   steps-trans,
   steps-one,
@@ -156,19 +157,19 @@ module _
   module _ (bits : (b : ℕ) → b < m → t .seen b < 2) (exhausted : Exhausted m R t) where
     -- an open item has seen all that it has in R, and no member is seen
     pub members-apart : Antichain R (members t m)
-    members-apart = record { once = members-nodup t m; apart = λ p q ne r. apart p q r }
+    members-apart = record { once = passing-nodup (memberTest t) m; apart = λ p q ne r. apart p q r }
       where
         apart : {a b : ℕ} → Mem a (members t m) → Mem b (members t m) → R a b → ⊥
         apart {a} {b} p q r =
-            let la : a < m = member-below t m p in
-            let lb : b < m = member-below t m q in
-            let unseen : t .seen b ≡ 0 = member-open t matching lb (member-test t m q) .0 in
-            let seen : t .seen b ≡ 1 = exhausted .closed a b la lb (member-open t matching la (member-test t m p) .1) r in
+            let la : a < m = passing-below (memberTest t) m p in
+            let lb : b < m = passing-below (memberTest t) m q in
+            let unseen : t .seen b ≡ 0 = member-open t matching lb (passing-test (memberTest t) m q) .0 in
+            let seen : t .seen b ≡ 1 = exhausted .closed a b la lb (member-open t matching la (passing-test (memberTest t) m p) .1) r in
             omega arith
 
     -- what is open and not seen is a member
     is-member : (x : ℕ) → x < m → t .seen x ≡ 0 → Open m t x → Mem x (members t m)
-    is-member x h z o = test-member t m h (open-member t z o)
+    is-member x h z o = test-passing (memberTest t) m h (open-member t z o)
 
     -- an item that is not seen goes on to a member
     unseen-ahead : (x : ℕ) → x < m → t .seen x ≡ 0 → (v : ℕ) × Mem v (members t m) × Steps (t .next) x v
@@ -219,7 +220,7 @@ module _
             (r .0, r .1, inl (r .2))
 
     member-chains : Chains m R (t .next) (members t m)
-    member-chains = chains-at (members t m) (λ v n. member-below t m n)
+    member-chains = chains-at (members t m) (λ v n. passing-below (memberTest t) m n)
 
     -- every item is on the chain of a member
     on-chains : (x : ℕ) → x < m → On (member-chains .lists) x
@@ -304,10 +305,10 @@ module _
           is-open)
         where
           lv : v < m
-          lv = member-below t m n
+          lv = passing-below (memberTest t) m n
 
           is-open : Open m t v
-          is-open = member-open t matching lv (member-test t m n) .1
+          is-open = member-open t matching lv (passing-test (memberTest t) m n) .1
 
           along : (x : ℕ) × Mem x s × Steps (t .next) x v → Mem v s ⊎ ((a : ℕ) × Mem a s × R a v)
           along (x, k, p) =

@@ -13,9 +13,9 @@ use Rattle.paths.proofs.Ways.{way-trans, way-order}
 use Rattle.paths.proofs.Threads.{thread-chain}
 use Rattle.paths.proofs.Fits.{thread-apart-le}
 use Rattle.paths.proofs.Duality.{equal-smallest}
-use Rattle.chains.specs.Items.{Tables, Matching, stay, Exhausted, members}
+use Rattle.chains.specs.Items.{Tables, Matching, stay, Exhausted, memberTest, members}
 use Rattle.chains.specs.Threads.{ThreadsOf}
-use Rattle.chains.proofs.Members.{member-below, members-nodup}
+use Rattle.paths.proofs.Passing.{passing-below, passing-nodup}
 use Rattle.chains.proofs.Antichain as Antichain
 use Rattle.chains.proofs.Threads.{getD-mem, nodup-getD, threads-length, threads-all, thread-of, threads-at}
 
@@ -30,7 +30,7 @@ module _
   pub apart : Apart g (members t (g .n))
   apart =
       record {
-        episodes = λ v m. member-below t (g .n) m;
+        episodes = λ v m. passing-below (memberTest t) (g .n) m;
         antichain = Antichain.members-apart (way-order acyclic) matching pairs bits exhausted;
       }
 
@@ -72,12 +72,12 @@ module _
     pub thread-member : (i : ℕ) → i < length (members t (g .n)) → Mem (getD (members t (g .n)) i 0) (getD ts i [])
     thread-member i h =
         threads-at g (t .next) (members t (g .n)) ts threads i h .holds (getD (members t (g .n)) i 0)
-        (member-below t (g .n) (getD-mem (members t (g .n)) i 0 h)) (inl stay)
+        (passing-below (memberTest t) (g .n) (getD-mem (members t (g .n)) i 0 h)) (inl stay)
 
     -- and no other
     pub thread-member-only : (i j : ℕ) → i < length (members t (g .n)) → j < length (members t (g .n))
         → Mem (getD (members t (g .n)) j 0) (getD ts i []) → j ≡ i
     thread-member-only i j li lj m =
-        nodup-getD (members t (g .n)) 0 (members-nodup t (g .n)) j i lj li
+        nodup-getD (members t (g .n)) 0 (passing-nodup (memberTest t) (g .n)) j i lj li
         (on-one-chain way-trans ℕ-discrete (thread-chain (threads-at g (t .next) (members t (g .n)) ts threads i li .thread))
         (apart .antichain) (getD-mem (members t (g .n)) j 0 lj) (getD-mem (members t (g .n)) i 0 li) m (thread-member i li))

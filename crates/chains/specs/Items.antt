@@ -3,9 +3,10 @@
 use mathlib.Core.Path.{_≡_}
 use mathlib.Core.Bool.{Bool, true, false, _&&_}
 use mathlib.Core.Logic.{_⊎_, _≢_}
-use mathlib.Core.List.{List, [], _∷_, _++_}
-use Prim.Native.Nat.{ℕ, zero, suc, _+_, _-_, _≤_, _<_}
+use mathlib.Core.List.{List}
+use Prim.Native.Nat.{ℕ, _+_, _-_, _≤_, _<_}
 use lib.Dec.{eqb}
+use Rattle.paths.specs.Passing.{passing}
 
 -- `next a` is the item behind `a` on its chain and `prev b` the item before `b`, each plus one, or 0 where there is none. `queue p` is
 -- the item at place p of a search's queue; `seen b` is 1 where the search has seen b, and `via b` is then, plus one, the place in the
@@ -126,6 +127,5 @@ abbrev pub memberTest : Tables → ℕ → Bool
 memberTest t v = eqb (t .seen v) 0 && openTest t v
 
 -- those below `k` that are in it, rising
-unfoldable pub members : Tables → ℕ → List ℕ
-members t zero = []
-members t (suc k) = elim (memberTest t k) [ true ↦ members t k ++ (k ∷ []) | false ↦ members t k ]
+abbrev pub members : Tables → ℕ → List ℕ
+members t k = passing (memberTest t) k

@@ -8,6 +8,7 @@ use native.Mathlib.Omega.{arith}
 use lib.ListN.{length, getD}
 use Rattle.paths.specs.Graph.{Graph, Link, EndsBelow, SameLinks}
 use Rattle.paths.proofs.Numbers.{rising-equal}
+use Rattle.paths.proofs.Passing.{passing-rising}
 use Rattle.paths.proofs.Same.{same-sym, same-trans}
 use Rattle.log.specs.Words.{Small}
 use Rattle.log.specs.Answer.{given}
@@ -15,8 +16,8 @@ use Rattle.log.specs.Log.{questions, graphOf}
 use Rattle.log.specs.declared.Ceilings.{Ceilings}
 use Rattle.log.proofs.Words.{number-lt}
 use Rattle.log.proofs.Laws.{well-formed, few-episodes, few-words, graph-episodes, graph-count, links-below}
-use Rattle.copying.specs.FairCopy.{linkedTo, group, groups, groupLinks, fairWords, fairNeed}
-use Rattle.copying.proofs.Linked.{linkedTo-mem, mem-linkedTo, linkedTo-rising}
+use Rattle.copying.specs.FairCopy.{linked, linkedTo, group, groups, groupLinks, fairWords, fairNeed}
+use Rattle.copying.proofs.Linked.{linkedTo-mem, mem-linkedTo}
 use Rattle.copying.proofs.GroupLinks.{linksOf, group-links-mem, mem-group-links, group-links-nodup, length-group-links, fair-fits}
 use Rattle.copying.proofs.ReadBack.{fair-episodes, fair-links, fair-passes}
 
@@ -26,7 +27,7 @@ module _ (g h : Graph) (episodes : g .n ≡ h .n) (same : (a b : ℕ) → a < g 
   linkedTo-equal a i =
       rw (← episodes)
       (rising-equal (linkedTo a (g .links) (g .n)) (linkedTo a (h .links) (g .n))
-      (linkedTo-rising a (g .links) (g .n)) (linkedTo-rising a (h .links) (g .n))
+      (passing-rising (λ b. linked a b (g .links)) (g .n)) (passing-rising (λ b. linked a b (h .links)) (g .n))
       (λ b m. let r = linkedTo-mem a (g .links) b (g .n) m in mem-linkedTo a (h .links) b (g .n) (r .0) (same a b i (r .0) .0 (r .1)))
       (λ b m. let r = linkedTo-mem a (h .links) b (g .n) m in mem-linkedTo a (g .links) b (g .n) (r .0) (same a b i (r .0) .1 (r .1))))
 

@@ -25,8 +25,9 @@ use native.Mathlib.Omega.{arith}
 use lib.ListN.{length, length-append, length-map}
 use Rattle.order.proofs.Lists.{nodup-cons, nodup-head, nodup-tail, nodup-append, nodup-le}
 use Rattle.paths.specs.Graph.{Graph, Link}
-use Rattle.copying.specs.FairCopy.{linkedTo, groups, groupLinks, fairWords, fairNeed}
-use Rattle.copying.proofs.Linked.{linkedTo-mem, mem-linkedTo, linkedTo-nodup, length-group-le, length-fair}
+use Rattle.paths.proofs.Passing.{passing-nodup}
+use Rattle.copying.specs.FairCopy.{linked, linkedTo, groups, groupLinks, fairWords, fairNeed}
+use Rattle.copying.proofs.Linked.{linkedTo-mem, mem-linkedTo, length-group-le, length-fair}
 
 -- the links from `a` to the members of a list
 abbrev pub linksOf : ℕ → List ℕ → List (ℕ × ℕ)
@@ -73,7 +74,7 @@ module _ (g : Graph) where
   group-links-nodup zero = Pairwise·nil
   group-links-nodup (suc k) =
       nodup-append (groupLinks g k) (linksOf k (linkedTo k (g .links) (g .n))) (group-links-nodup k)
-      (links-of-nodup k (linkedTo k (g .links) (g .n)) (linkedTo-nodup k (g .links) (g .n)))
+      (links-of-nodup k (linkedTo k (g .links) (g .n)) (passing-nodup (λ b. linked k b (g .links)) (g .n)))
       (λ l m i.
       let low = group-links-mem k (l .0) (l .1) m .0 in
       let same = links-of-mem k (l .0) (l .1) (linkedTo k (g .links) (g .n)) i .0 in

@@ -1,8 +1,8 @@
 -- The episodes that an episode is linked to, and the words of its group.
-use mathlib.Core.Path.{_≡_, refl, _∙_, ap, sym, ap₂}
+use mathlib.Core.Path.{_≡_, refl, ap, sym, ap₂}
 use mathlib.Core.Logic.{_⊎_, inl, inr, ⊎-elim}
 use mathlib.Core.Bool.{Bool, true, false, _&&_, _||_, true≢false, or-true, or-assoc}
-use mathlib.Core.List.{List, [], _∷_, _++_, List·Memᴰ as Mem, List·Memᴰ·head as here, List·Memᴰ·tail as there, List·Memᴰ·not-nil as not-nil, List·Memᴰ·cases-cons as mem-cases, List·Memᴰ·eq-of-singleton as eq-of-singleton, List·Memᴰ·append-cases as append-cases, Memᴰ·append-left, Memᴰ·append-right, List·Nodup, IsChain·nil}
+use mathlib.Core.List.{List, [], _∷_, _++_, List·Memᴰ as Mem, List·Memᴰ·head as here, List·Memᴰ·tail as there, List·Memᴰ·not-nil as not-nil, List·Memᴰ·cases-cons as mem-cases}
 use Prim.Native.Nat.{ℕ, zero, suc, _+_, _*_, _<_, _≤_}
 use native.Mathlib.Decide.{ℕ-discrete}
 use native.Mathlib.Numerals.{add-one}
@@ -10,9 +10,8 @@ use native.Mathlib.Omega.{arith}
 use lib.Dec.{eqb}
 use lib.ListN.{length, length-append, length-map}
 use borrow.Author.Tests.{eqb-true, eq-eqb}
-use Rattle.order.specs.Order.{All}
-use Rattle.paths.specs.Graph.{Graph, Rising}
-use Rattle.paths.proofs.Numbers.{nodup-below, rising-snoc, rising-nodup}
+use Rattle.paths.specs.Graph.{Graph}
+use Rattle.paths.proofs.Passing.{passing-below, passing-test, test-passing}
 use Rattle.log.specs.Words.{word}
 use Rattle.copying.specs.FairCopy.{linked, linkedTo, group, groups, groupLinks, fairWords}
 use Rattle.copying.specs.Copying.{groupLength}
@@ -58,49 +57,10 @@ linked-append a b (l ∷ xs) ys = rw (linked-append a b xs ys) (sym (or-assoc (e
 module _ (a : ℕ) (ls : List (ℕ × ℕ)) where
   -- its members are the episodes below `k` that `a` is linked to
   pub linkedTo-mem : (b k : ℕ) → Mem b (linkedTo a ls k) → (b < k) × Mem {A = ℕ × ℕ} (a, b) ls
-  unfolding linkedTo
-  linkedTo-mem b zero m = absurd (not-nil m)
-  linkedTo-mem b (suc k) m = go (linked a k ls) refl m (linkedTo-mem b k)
-    where
-      go : (x : Bool) → linked a k ls ≡ x → Mem b (elim x [ true ↦ linkedTo a ls k ++ k ∷ [] | false ↦ linkedTo a ls k ])
-          → (Mem b (linkedTo a ls k) → (b < k) × Mem {A = ℕ × ℕ} (a, b) ls) → (b < suc k) × Mem {A = ℕ × ℕ} (a, b) ls
-      go true e m more =
-          ⊎-elim
-          (λ n. (omega (arith, more n .0), more n .1))
-          (λ n. let same = eq-of-singleton n in (omega arith, rw same (linked-mem a k ls e)))
-          (append-cases (linkedTo a ls k) m)
-      go false e m more = (omega (arith, more m .0), more m .1)
+  linkedTo-mem b k m = (passing-below (λ c. linked a c ls) k m, linked-mem a b ls (passing-test (λ c. linked a c ls) k m))
 
   pub mem-linkedTo : (b k : ℕ) → b < k → Mem {A = ℕ × ℕ} (a, b) ls → Mem b (linkedTo a ls k)
-  unfolding linkedTo
-  mem-linkedTo b zero h m = absurd (omega arith)
-  mem-linkedTo b (suc k) h m = go (linked a k ls) refl (ℕ-discrete b k) (λ l. mem-linkedTo b k l m)
-    where
-      go : (x : Bool) → linked a k ls ≡ x → Dec (b ≡ k) → (b < k → Mem b (linkedTo a ls k))
-          → Mem b (elim x [ true ↦ linkedTo a ls k ++ k ∷ [] | false ↦ linkedTo a ls k ])
-      go true e (yes f) more = Memᴰ·append-right (linkedTo a ls k) (here f)
-      go true e (no f) more = Memᴰ·append-left (k ∷ []) (more (omega arith))
-      go false e (yes f) more = absurd (true≢false (sym (mem-linked a k ls (rw f at m)) ∙ e))
-      go false e (no f) more = more (omega arith)
-
-  pub linkedTo-below : (k : ℕ) → All (λ b. b < k) (linkedTo a ls k)
-  linkedTo-below k b m = linkedTo-mem b k m .0
-
-  -- they rise, so none is there twice, and there are at most `k`
-  pub linkedTo-rising : (k : ℕ) → Rising (linkedTo a ls k)
-  unfolding linkedTo
-  linkedTo-rising zero = IsChain·nil
-  linkedTo-rising (suc k) = go (linked a k ls) (linkedTo-rising k)
-    where
-      go : (x : Bool) → Rising (linkedTo a ls k) → Rising (elim x [ true ↦ linkedTo a ls k ++ k ∷ [] | false ↦ linkedTo a ls k ])
-      go true r = rising-snoc r (linkedTo-below k)
-      go false r = r
-
-  pub linkedTo-nodup : (k : ℕ) → List·Nodup (linkedTo a ls k)
-  linkedTo-nodup k = rising-nodup (linkedTo-rising k)
-
-  pub length-linkedTo : (k : ℕ) → length (linkedTo a ls k) ≤ k
-  length-linkedTo k = nodup-below k (linkedTo a ls k) (linkedTo-nodup k) (linkedTo-below k)
+  mem-linkedTo b k h m = test-passing (λ c. linked a c ls) k h (mem-linked a b ls m)
 
 -- a group that is not empty has a from word, and a to word for each link
 pub length-group : (a : ℕ) (bs : List ℕ) → length (group a bs) ≡ groupLength (length bs)

@@ -17,7 +17,7 @@ use Rattle.log.proofs.Words.{kind-word, number-word}
 use Rattle.log.proofs.Asked.{FromTaken, ToTaken, there-to, from-given, to-given, end-given}
 use Rattle.log.proofs.Links.{links-from, links-to, links-end, links-nil, links-append, lastFrom}
 use Rattle.copying.specs.FairCopy.{linkedTo, group, groups, groupLinks, fairWords}
-use Rattle.copying.proofs.Linked.{linkedTo-below}
+use Rattle.copying.proofs.Linked.{linkedTo-mem}
 use Rattle.copying.proofs.GroupLinks.{linksOf}
 
 -- the to words behind a from word give its links, and so does a group, whatever stood before it
@@ -42,7 +42,7 @@ module _ (g : Graph) (few : Small (g .n)) where
       let bs : List ℕ = linkedTo k (g .links) (g .n) in
       links-append c (groups g k) (group k bs)
       ∙ ap₂ (λ (xs ys : List (ℕ × ℕ)). xs ++ ys) (groups-links c k (omega arith))
-      (group-links (lastFrom c (groups g k)) k bs (omega arith) (λ b m. omega (arith, linkedTo-below k (g .links) (g .n) b m)))
+      (group-links (lastFrom c (groups g k)) k bs (omega arith) (λ b m. omega (arith, linkedTo-mem k (g .links) b (g .n) m .0)))
 
   -- the graph that the fair copy describes
   pub fair-episodes : graphOf (fairWords g) .n ≡ g .n
@@ -116,7 +116,7 @@ module _ (m : Ceilings) (g : Graph) (few : Small (g .n)) where
       let same : length (groupLinks g (suc k)) ≡ length (groupLinks g k) + length bs = simp (length-append, length-map) in
       rw append-assoc
       (over-groups k (omega arith) (omega arith) (group k bs ++ s) r (simp length-append (omega arith))
-      (over-group m (g .n) few k bs s (length (groupLinks g k)) r (omega arith) (linkedTo-below k (g .links) (g .n)) l (omega arith)
+      (over-group m (g .n) few k bs s (length (groupLinks g k)) r (omega arith) (λ b m. linkedTo-mem k (g .links) b (g .n) m .0) l (omega arith)
       (rw same at more)))
 
 -- questions 1 to 10, of a head `w` with words behind it

@@ -1,9 +1,9 @@
 -- The rows of a block of episodes: their marks word by word of the log, and the links that are marked in a row.
 use mathlib.Core.Path.{_≡_, refl, ap, ap₂, _∙_}
 use mathlib.Core.Logic.{_≢_}
-use mathlib.Core.Bool.{Bool, true, false, _&&_, _||_, or-false, or-true}
+use mathlib.Core.Bool.{Bool, true, false, not, _&&_, _||_, or-false, or-true}
 use mathlib.Core.List.{List, [], _∷_, _++_}
-use Prim.Native.Nat.{ℕ, zero, suc, _+_, _-_, _/_, _%_, _≤_, _<_}
+use Prim.Native.Nat.{ℕ, _+_, _-_, _/_, _%_, _≤_, _<_}
 use native.Mathlib.Decide.{ℕ-discrete}
 use native.Mathlib.Omega.{arith}
 use lib.Dec.{eqb}
@@ -15,8 +15,9 @@ use Rattle.log.specs.Words.{kind, number}
 use Rattle.log.specs.Log.{graphOf, PassedLog}
 use Rattle.log.proofs.Links.{linksBefore, nearestFrom}
 use Rattle.log.proofs.Laws.{well-formed, graph-episodes, to-word, before-head, pass-from, pass-to, links-passed}
+use Rattle.paths.proofs.Passing.{passing-equal}
 use Rattle.copying.specs.FairCopy.{linked, linkedTo}
-use Rattle.copying.specs.Copying.{mark, blockWords, rowAt, BlockMarks, WordTaken, marked}
+use Rattle.copying.specs.Copying.{mark, blockWords, rowAt, BlockMarks, WordTaken, markedAt, marked}
 use Rattle.copying.proofs.Linked.{linked-append}
 
 -- one link more, from `a` or from another episode
@@ -146,17 +147,11 @@ Marks a ls row = (b : ℕ) → b < length row → getD row b 0 ≡ mark (linked 
 
 -- what is marked is what `a` is linked to
 marked-linked : (a : ℕ) (ls : List (ℕ × ℕ)) (row : List ℕ) (k : ℕ) → k ≤ length row → Marks a ls row → marked row k ≡ linkedTo a ls k
-unfolding marked linkedTo
-marked-linked a ls row zero h m = refl
-marked-linked a ls row (suc b) h m = go (linked a b ls) refl (marked-linked a ls row b (omega arith) m)
+marked-linked a ls row k h m = passing-equal (markedAt row) (λ b. linked a b ls) k (λ b l. rw (m b (omega arith)) (test (linked a b ls)))
   where
-    go : (x : Bool) → linked a b ls ≡ x → marked row b ≡ linkedTo a ls b → marked row (suc b) ≡ linkedTo a ls (suc b)
-    go true e rest =
-        let here : getD row b 0 ≡ 1 = m b (omega arith) ∙ ap mark e in
-        rw (marked, linkedTo, here, e) (ap (λ (bs : List ℕ). bs ++ b ∷ []) rest)
-    go false e rest =
-        let here : getD row b 0 ≡ 0 = m b (omega arith) ∙ ap mark e in
-        rw (marked, linkedTo, here, e) rest
+    test : (x : Bool) → not (eqb (mark x) 0) ≡ x
+    test true = refl
+    test false = refl
 
 -- the row of `a` in its block, as it is lent
 abbrev pub rowOf : ℕ → ℕ → List ℕ → List ℕ

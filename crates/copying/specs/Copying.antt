@@ -1,12 +1,13 @@
 -- What the steps to a fair copy leave.
 use mathlib.Core.Path.{_≡_}
 use mathlib.Core.Logic.{_≢_}
-use mathlib.Core.Bool.{Bool, true, false}
-use mathlib.Core.List.{List, [], _∷_, _++_}
+use mathlib.Core.Bool.{Bool, true, false, not}
+use mathlib.Core.List.{List, _∷_}
 use Prim.Native.Nat.{ℕ, zero, suc, _+_, _*_, _/_, _%_, _<_}
 use lib.Dec.{eqb}
 use lib.ListN.{length, getD, set}
 use Rattle.paths.specs.Graph.{Graph}
+use Rattle.paths.specs.Passing.{passing}
 use Rattle.log.specs.Words.{kind, number}
 use Rattle.copying.specs.FairCopy.{linked, group, groups, groupLinks}
 use Rattle.writing.specs.Layout.{BeginsWith}
@@ -34,10 +35,13 @@ pub record WordTaken (x from block r : ℕ) (w w′ : List ℕ) : Type 0 where
   pub of-to : kind x ≢ 2 → from / 64 ≡ block → (r ≡ from) × (w′ ≡ set w (rowAt from + number x) 1)
   pub of-other : kind x ≢ 2 → from / 64 ≢ block → (r ≡ from) × (w′ ≡ w)
 
+-- whether the row has a mark at `b`
+abbrev pub markedAt : List ℕ → ℕ → Bool
+markedAt row b = not (eqb (getD row b 0) 0)
+
 -- the numbers below `k` that are marked in the row, rising
-unfoldable pub marked : List ℕ → ℕ → List ℕ
-marked row zero = []
-marked row (suc b) = elim (eqb (getD row b 0) 0) [ true ↦ marked row b | false ↦ marked row b ++ b ∷ [] ]
+abbrev pub marked : List ℕ → ℕ → List ℕ
+marked row k = passing (markedAt row) k
 
 -- how many words a group of `k` links has
 abbrev pub groupLength : ℕ → ℕ

@@ -1,10 +1,11 @@
 -- The fair copy of a log: each link once, in order.
-use mathlib.Core.Bool.{Bool, true, false, _&&_, _||_}
+use mathlib.Core.Bool.{Bool, false, _&&_, _||_}
 use mathlib.Core.List.{List, [], _∷_, _++_, map}
 use Prim.Native.Nat.{ℕ, zero, suc, _+_, _*_}
 use lib.Dec.{eqb}
 use lib.ListN.{length}
 use Rattle.paths.specs.Graph.{Graph}
+use Rattle.paths.specs.Passing.{passing}
 use Rattle.log.specs.Words.{word}
 
 -- whether the link from `a` to `b` is among the links
@@ -13,9 +14,8 @@ linked a b [] = false
 linked a b (l ∷ ls) = (eqb a (l .0) && eqb b (l .1)) || linked a b ls
 
 -- the episodes below `k` that `a` is linked to, rising
-unfoldable pub linkedTo : ℕ → List (ℕ × ℕ) → ℕ → List ℕ
-linkedTo a ls zero = []
-linkedTo a ls (suc b) = elim (linked a b ls) [ true ↦ linkedTo a ls b ++ b ∷ [] | false ↦ linkedTo a ls b ]
+abbrev pub linkedTo : ℕ → List (ℕ × ℕ) → ℕ → List ℕ
+linkedTo a ls k = passing (λ b. linked a b ls) k
 
 -- one group: a from word and its to words, or no words where there are no links
 unfoldable pub group : ℕ → List ℕ → List ℕ

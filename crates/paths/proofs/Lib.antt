@@ -3,6 +3,7 @@ pub mod Theorems
 pub mod Ways
 pub mod Threads
 pub mod Numbers
+pub mod Passing
 pub mod Duality
 pub mod Furthest
 pub mod Fits

@@ -10,10 +10,10 @@ use Rattle.bits.specs.Work.{waysAt, seenAt}
 use Rattle.bits.proofs.Rows.{bit-lt}
 use Rattle.reach.specs.Reach.{FirstLoop}
 use Rattle.bits.proofs.Frames.{matrix-before}
-use Rattle.chains.specs.Items.{members}
+use Rattle.chains.specs.Items.{memberTest, members}
 use Rattle.chains.specs.Threads.{ThreadsOf}
 use Rattle.chains.specs.State.{tables, JoinedIn, LoopedIn}
-use Rattle.chains.proofs.Members.{members-rising}
+use Rattle.paths.proofs.Passing.{passing-rising}
 use Rattle.chains.proofs.Relations.{exhausted-within}
 use Rattle.chains.proofs.Cycle.{loop-least}
 use Rattle.chains.proofs.Reports as reports
@@ -31,7 +31,7 @@ reported-here {g} {w} s ts h =
       cover = reports.cover (s .acyclic) (s .matching) (s .pairs) bits (s .exhausted) ts h;
       smallest = reports.smallest (s .acyclic) (s .matching) (s .pairs) bits (s .exhausted) ts h;
       furthest = reports.furthest (s .acyclic) (s .matching) (s .pairs) bits (s .exhausted);
-      rising = members-rising (tables w) (g .n);
+      rising = passing-rising (memberTest (tables w)) (g .n);
       paired =
           record {
             same = reports.same-length (s .acyclic) (s .matching) (s .pairs) bits (s .exhausted) ts h;

@@ -1,53 +1,25 @@
 -- Threads that are being written, one for each member of the apart set, and the room that they take.
 use mathlib.Core.Path.{_≡_, refl, sym, ap, subst, _∙_}
-use mathlib.Core.Bool.{Bool, true, false}
+use mathlib.Core.Bool.{true, false}
 use mathlib.Core.List.{List, [], _∷_, _++_}
-use Prim.Native.Nat.{ℕ, zero, suc, _+_, _-_, _*_, _≤_, _<_}
+use Prim.Native.Nat.{ℕ, _+_, _-_, _*_, _≤_, _<_}
 use native.Mathlib.Nat.{add-mul, suc-mul, mul-le-mul-right}
 use native.Mathlib.Omega.{arith}
 use lib.ListN.{length, take, drop, length-append, length-drop}
 use Rattle.paths.specs.Graph.{Graph, Way, Thread}
-use Rattle.paths.proofs.Numbers.{nodup-below}
 use Rattle.bits.specs.Work.{seenAt}
 use Rattle.bits.proofs.Rows.{bit-lt}
-use Rattle.chains.specs.Items.{Tables, Matching, Exhausted, memberTest, members}
+use Rattle.chains.specs.Items.{Matching, Exhausted, memberTest, members}
 use Rattle.chains.specs.State.{tables}
 use Rattle.chains.specs.Threads.{ThreadsOf}
-use Rattle.chains.proofs.Members.{members-more, members-same, members-nodup, member-below}
+use Rattle.paths.specs.Passing.{passing}
+use Rattle.paths.proofs.Passing.{passing-more, passing-same, length-passing, passing-le}
 use Rattle.chains.proofs.Threads.{threads-none, threads-snoc}
 use Rattle.chains.proofs.Reports.{thread-short}
 use Rattle.writing.specs.Layout.{BeginsWith, threadWords, threadsWords}
 use Rattle.writing.specs.Writing.{Solved, ThreadWritten, ThreadsWritten}
 use Rattle.writing.proofs.Layouts.{threads-words-snoc, length-thread}
 use Rattle.writing.proofs.Buffers.{length-snoc, begins-none, begins-length, begins-part, lent-part, lent-rest}
-
-module _ (t : Tables) where
-  members-step : (k : ℕ) → length (members t k) ≤ length (members t (k + 1))
-  members-step k = go (memberTest t k) refl
-    where
-      go : (b : Bool) → memberTest t k ≡ b → length (members t k) ≤ length (members t (k + 1))
-      go true e =
-          let f = ap length (members-more t k e) in
-          let l = length-snoc (members t k) k in
-          omega arith
-      go false e = let f = ap length (members-same t k e) in omega arith
-
-  members-ahead : (k d : ℕ) → length (members t k) ≤ length (members t (k + d))
-  members-ahead k zero = let e : k + 0 ≡ k = omega arith in rw e (omega arith)
-  members-ahead k (suc d) =
-      let e : k + suc d ≡ k + d + 1 = omega arith in
-      let h = members-ahead k d in
-      let s = members-step (k + d) in
-      rw e (omega arith)
-
-  -- the members below a number are not more than those below a larger one
-  members-mono : (k n : ℕ) → k ≤ n → length (members t k) ≤ length (members t n)
-  members-mono k n h =
-      let e : k + (n - k) ≡ n = omega arith in
-      subst (λ (x : ℕ). length (members t k) ≤ length (members t x)) e (members-ahead k (n - k))
-
-  pub members-le : (n : ℕ) → length (members t n) ≤ n
-  members-le n = nodup-below n (members t n) (members-nodup t n) (λ v m. member-below t n m)
 
 -- the words that a thread has at most
 abbrev pub threadNeed : List ℕ → ℕ → ℕ
@@ -56,7 +28,7 @@ threadNeed w n = n + 2 - length (members (tables w) n)
 -- a thread's words are at most so many
 thread-need : {g : Graph} {n : ℕ} {w : List ℕ} → Solved g n w → (th : List ℕ) → Thread g th → length th + 1 ≤ threadNeed w n
 thread-need {g} {n} {w} q th t =
-    let k : length (members (tables w) n) ≤ n = members-le (tables w) n in
+    let k : length (members (tables w) n) ≤ n = length-passing (memberTest (tables w)) n in
     let h : length th + length (members (tables w) (g .n)) ≤ g .n + 1 =
     thread-short (q .acyclic) (over (q .matching)) (λ a b la lb. q .pairs a b (below la) (below lb)) (λ b lb. bit-lt w seenAt b)
     (subst (λ (m : ℕ). Exhausted m (Way g) (tables w)) (sym (q .count)) (q .exhausted)) th t in
@@ -94,7 +66,7 @@ pub record Bundling (w : List ℕ) (n : ℕ) (o o′ : List ℕ) (at v : ℕ) : 
   pub v-le : v ≤ n
 
 pub bundling-none : (w : List ℕ) (n : ℕ) (o : List ℕ) → Bundling w n o o 0 0
-unfolding threadsWords members
+unfolding threadsWords passing
 bundling-none w n o =
     record {
       threads = [];
@@ -118,7 +90,7 @@ module _ {w : List ℕ} {n : ℕ} {o o′ : List ℕ} {at v : ℕ} (b : Bundling
   -- `v` is not a member
   pub bundling-same : v < n → memberTest (tables w) v ≡ false → Bundling w n o o′ at (v + 1)
   bundling-same h e =
-      let same : members (tables w) (v + 1) ≡ members (tables w) v = members-same (tables w) v e in
+      let same : members (tables w) (v + 1) ≡ members (tables w) v = passing-same (memberTest (tables w)) v e in
       record {
         threads = b .threads;
         size = b .size;
@@ -129,7 +101,7 @@ module _ {w : List ℕ} {n : ℕ} {o o′ : List ℕ} {at v : ℕ} (b : Bundling
 
   module _ (h : v < n) (e : memberTest (tables w) v ≡ true) where
     more : length (members (tables w) (v + 1)) ≡ length (members (tables w) v) + 1
-    more = ap length (members-more (tables w) v e) ∙ length-snoc (members (tables w) v) v
+    more = ap length (passing-more (memberTest (tables w)) v e) ∙ length-snoc (members (tables w) v) v
 
     -- `v` is a member: there is room for one thread more
     bundling-room : length (members (tables w) n) * threadNeed w n ≤ length o → (g : Graph) → Solved g n w → at + threadNeed w n ≤ length o
@@ -138,7 +110,7 @@ module _ {w : List ℕ} {n : ℕ} {o o′ : List ℕ} {at v : ℕ} (b : Bundling
         threads-need q (tables w .next) (members (tables w) v) (b .threads) (b .of g q) in
         let a = b .size in
         let m = more in
-        let le : length (members (tables w) (v + 1)) ≤ length (members (tables w) n) = members-mono (tables w) (v + 1) n (omega arith) in
+        let le : length (members (tables w) (v + 1)) ≤ length (members (tables w) n) = passing-le (memberTest (tables w)) (v + 1) n (omega arith) in
         let p : (length (members (tables w) v) + 1) * threadNeed w n ≤ length (members (tables w) n) * threadNeed w n =
         mul-le-mul-right (threadNeed w n) (omega arith) in
         let d = add-mul (length (members (tables w) v)) 1 (threadNeed w n) in
@@ -169,7 +141,7 @@ module _ {w : List ℕ} {n : ℕ} {o o′ : List ℕ} {at v : ℕ} (b : Bundling
           words =
               subst (λ (ws : List ℕ). BeginsWith ws o (take at o′ ++ p)) (sym snoc)
               (begins-part (threadsWords (b .threads)) o o′ (b .words) (threadWords (t .thread)) p at (b .size) (t .words));
-          of = λ g q. rw (members-more (tables w) v e)
+          of = λ g q. rw (passing-more (memberTest (tables w)) v e)
               (threads-snoc g (tables w .next) (members (tables w) v) (b .threads) (b .of g q) (t .of g q));
           v-le = omega arith;
         }

@@ -2,6 +2,7 @@
 pub mod Layouts
 pub mod Buffers
 pub mod Tests
+pub mod Listing
 pub mod Apart
 pub mod Starts
 pub mod Hops

@@ -8,12 +8,13 @@ use lib.ListN.{length, set, take, drop, length-append, length-drop, length-map}
 use Rattle.paths.specs.Graph.{Graph}
 use Rattle.paths.proofs.Fits.{product-le}
 use Rattle.log.specs.Words.{word}
-use Rattle.chains.specs.Items.{members}
+use Rattle.chains.specs.Items.{memberTest, members}
 use Rattle.chains.specs.State.{tables}
 use Rattle.writing.specs.Layout.{BeginsWith, threadsWords, ended, reportWords, reportNeed}
 use Rattle.writing.specs.Writing.{Solved, ApartWritten, ThreadsWritten, ReportWritten}
 use Rattle.writing.proofs.Buffers.{length-snoc, begins-length, begins-more, begins-part, lent-part, lent-rest}
-use Rattle.writing.proofs.Bundling.{members-le, threads-need, threadNeed}
+use Rattle.paths.proofs.Passing.{length-passing}
+use Rattle.writing.proofs.Bundling.{threads-need, threadNeed}
 
 -- the width, the apart set, the threads' words and the end
 report-room : (k n : ℕ) → k ≤ n → 1 + k + k * (n + 2 - k) + 1 ≤ reportNeed n
@@ -41,7 +42,7 @@ module _ {w : List ℕ} {n : ℕ} {o o₁ : List ℕ} {k : ℕ} (a : ApartWritte
   apart-length = begins-length front o o₁ (a .words)
 
   pub apart-le : k ≤ n
-  apart-le = let e = a .size in let le = members-le (tables w) n in omega arith
+  apart-le = let e = a .size in let le = length-passing (memberTest (tables w)) n in omega arith
 
   pub apart-fits : reportNeed n ≤ length o → k + 1 ≤ length o₁
   apart-fits room = let le = apart-le in let e = apart-length in omega arith

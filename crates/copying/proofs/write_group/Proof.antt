@@ -5,19 +5,21 @@ use mathlib.Core.Logic.{⊎-elim}
 use Prim.Native.Nat.{_-_}
 use native.Mathlib.Omega.{arith}
 use lib.ListN.{length, length-set}
-use Rattle.copying.proofs.Groups.{Writing, marked-room, writing-none, writing-more, writing-same, writing-links, writing-no-links}
+use Rattle.writing.proofs.Listing.{Listing, listing-none, listing-more, listing-same}
+use Rattle.copying.specs.Copying.{markedAt}
+use Rattle.copying.proofs.Groups.{is-marked, not-marked, marked-room, group-links, group-no-links}
 use Rattle.copying.proofs.write_group.Statement.{statement}
 use Rattle.copying.proofs.write_group.Tie as tie
 
 abbrev Inv-loop : tie.InvT-loop
-Inv-loop row a out₀ links₀ b₀ out links b = Writing row out₀ out links b
+Inv-loop row a out₀ links₀ b₀ out links b = Listing (markedAt row) 3 out₀ out (length row) links b
 
 abbrev μ-loop : tie.MeasureT-loop
 μ-loop row a out₀ links₀ b₀ out links b = length row - b
 
 loop-holds : tie.Need-loop-holds Inv-loop μ-loop
 loop-holds c =
-    writing-none (c .args .row .now) (c .args .out .now) (omega arith)
+    listing-none (markedAt (c .args .row .now)) 3 (c .args .out .now) (length (c .args .row .now)) (omega arith)
 
 mul-if1 : tie.Need-mul-if1 Inv-loop μ-loop
 mul-if1 c = omega arith
@@ -58,14 +60,18 @@ loop-again : tie.Need-loop-again Inv-loop μ-loop
 loop-again c =
     let a = c .before .before .before .before .args in
     let at = c .before .before .before .loop in
+    let row = a .row .now in
     ⊎-elim
     (λ p.
-    let room = marked-room (a .row .now) (a .a) (at .b) (omega arith) (λ e. omega (arith, p .0 .taken)) in
+    let marked = is-marked row (at .b) (λ e. omega (arith, p .0 .taken)) in
+    let room = marked-room row (a .a) (at .b) (omega arith) (λ e. omega (arith, p .0 .taken)) in
     rw (p .1, p .2)
-    (writing-more (a .row .now) (a .out .now) (at .out) (at .links) (at .b) (at .inv) (omega arith) (λ e. omega (arith, p .0 .taken)) (omega arith)))
+    (listing-more (markedAt row) 3 (a .out .now) (at .out) (length row) (at .links) (at .b) (at .inv) (omega arith)
+    (omega (arith, at .inv .size)) marked))
     (λ p.
     rw (p .1, p .2)
-    (writing-same (a .row .now) (a .out .now) (at .out) (at .links) (at .b) (at .inv) (omega arith) (omega (arith, p .0 .left))))
+    (listing-same (markedAt row) 3 (a .out .now) (at .out) (length row) (at .links) (at .b) (at .inv) (omega arith)
+    (not-marked row (at .b) (omega (arith, p .0 .left)))))
     (c .if1 .came)
 
 cast-out-2 : tie.Need-cast-out-2 Inv-loop μ-loop
@@ -84,7 +90,7 @@ returns : tie.Need-returns Inv-loop μ-loop
 returns c =
     let a = c .before .before .before .args in
     let at = c .before .before .loop in
-    writing-links (a .row .now) (a .out .now) (at .out) (at .links) (at .b) (at .inv) (a .a) (omega arith) (λ e. omega arith)
+    group-links (a .row .now) (a .out .now) (at .out) (at .links) (at .b) (at .inv) (omega arith) (a .a) (λ e. omega arith)
 
 same-length-2 : tie.Need-same-length-2 Inv-loop μ-loop
 same-length-2 c = omega arith
@@ -93,7 +99,7 @@ returns-2 : tie.Need-returns-2 Inv-loop μ-loop
 returns-2 c =
     let a = c .before .before .before .args in
     let at = c .before .before .loop in
-    writing-no-links (a .row .now) (a .out .now) (at .out) (at .links) (at .b) (at .inv) (a .a) (omega arith) (omega arith) (omega arith)
+    group-no-links (a .row .now) (a .out .now) (at .out) (at .links) (at .b) (at .inv) (omega arith) (a .a) (omega arith) (omega arith)
 
 pub write-group-spec : {M : Type 1} → statement M
 write-group-spec =

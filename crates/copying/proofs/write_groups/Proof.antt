@@ -8,9 +8,9 @@ use Prim.Native.Nat.{ℕ, _-_, _/_, _%_, _≤_, _<_, _^_}
 use native.Mathlib.Omega.{arith}
 use lib.ListN.{length}
 use Rattle.log.specs.Log.{graphOf}
-use Rattle.copying.specs.FairCopy.{linkedTo}
+use Rattle.copying.specs.FairCopy.{linked, linkedTo}
 use Rattle.copying.specs.Copying.{BlockMarks, GroupWritten}
-use Rattle.copying.proofs.Linked.{length-linkedTo}
+use Rattle.paths.proofs.Passing.{length-passing}
 use Rattle.copying.proofs.Rows.{passed-few, next-block}
 use Rattle.copying.proofs.Copies.{
   Copying,
@@ -51,7 +51,7 @@ few-links : (c : tie.At-loop Inv-loop μ-loop) {o o′ : List ℕ} {r : ℕ}
     → GroupWritten (c .loop .a) (linkedTo (c .loop .a) (graphOf (start c .args .log .now) .links) (start c .args .n)) o o′ r → r < 2 ^ 28
 few-links c {r = r} g =
     let few = episodes-few (start c .args .log .now) in
-    let most = length-linkedTo (c .loop .a) (graphOf (start c .args .log .now) .links) (start c .args .n) in
+    let most = length-passing (λ b. linked (c .loop .a) b (graphOf (start c .args .log .now) .links)) (start c .args .n) in
     omega (arith, g .count, start c .pre .1)
 
 mul-copy-row : tie.Need-mul-copy-row Inv-loop μ-loop

@@ -6,12 +6,15 @@ use mathlib.Core.Path.{sym, _∙_}
 use Prim.Native.Nat.{_-_}
 use native.Mathlib.Omega.{arith}
 use lib.ListN.{length-set}
-use Rattle.writing.proofs.Apart.{Members, apart-none, apart-more, apart-same, apart-done}
+use Rattle.chains.specs.Items.{memberTest}
+use Rattle.chains.specs.State.{tables}
+use Rattle.writing.proofs.Listing.{Listing, listing-none, listing-more, listing-same}
+use Rattle.writing.proofs.Apart.{apart-done}
 use Rattle.writing.proofs.write_apart.Statement.{statement}
 use Rattle.writing.proofs.write_apart.Tie as tie
 
 abbrev Inv-loop : tie.InvT-loop
-Inv-loop w n out₀ k₀ v₀ out k v = Members w out₀ out n k v
+Inv-loop w n out₀ k₀ v₀ out k v = Listing (memberTest (tables w)) 5 out₀ out n k v
 
 abbrev μ-loop : tie.MeasureT-loop
 μ-loop w n out₀ k₀ v₀ out k v = n - v
@@ -19,7 +22,7 @@ abbrev μ-loop : tie.MeasureT-loop
 loop-holds : tie.Need-loop-holds Inv-loop μ-loop
 loop-holds c =
     let a = c .before .before .args in
-    apart-none (a .w .now) (a .out .now) (a .n) (omega arith)
+    listing-none (memberTest (tables (a .w .now))) 5 (a .out .now) (a .n) (omega arith)
 
 is-member-requires : tie.Need-is-member-requires Inv-loop μ-loop
 is-member-requires c κs =
@@ -55,10 +58,11 @@ loop-again c =
     ⊎-elim
     (λ p.
     rw (p .1, p .2)
-    (apart-more (a .w .now) (a .out .now) (at .out) (a .n) (at .k) (at .v) (at .inv) (omega arith) (omega arith) (test ∙ p .0 .taken)))
+    (listing-more (memberTest (tables (a .w .now))) 5 (a .out .now) (at .out) (a .n) (at .k) (at .v) (at .inv) (omega arith)
+    (omega (arith, at .inv .few)) (test ∙ p .0 .taken)))
     (λ p.
     rw (p .1, p .2)
-    (apart-same (a .w .now) (a .out .now) (at .out) (a .n) (at .k) (at .v) (at .inv) (omega arith) (test ∙ p .0 .left)))
+    (listing-same (memberTest (tables (a .w .now))) 5 (a .out .now) (at .out) (a .n) (at .k) (at .v) (at .inv) (omega arith) (test ∙ p .0 .left)))
     (c .if1 .came)
 
 cast-out-2 : tie.Need-cast-out-2 Inv-loop μ-loop
