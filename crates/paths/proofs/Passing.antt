@@ -23,12 +23,8 @@ use native.Mathlib.Numerals.{add-one}
 use native.Mathlib.Omega.{arith}
 use lib.ListN.{length, length-append}
 use Rattle.paths.specs.Graph.{Rising}
-use Rattle.paths.specs.Passing.{passing}
+use Rattle.paths.specs.Passing.{extend, passing}
 use Rattle.paths.proofs.Numbers.{nodup-below, rising-snoc, rising-nodup}
-
--- `k` behind `l` where the test passes
-abbrev extend : Bool → List ℕ → ℕ → List ℕ
-extend b l k = elim b [ true ↦ l ++ (k ∷ []) | false ↦ l ]
 
 module _ (test : ℕ → Bool) where
   passing-suc : (k : ℕ) (b : Bool) → test k ≡ b → passing test (suc k) ≡ extend b (passing test k) k
