@@ -1,36 +1,46 @@
 // What a call answered, as a line.
 ghost use Prim.Native.Nat.{_≤_};
+ghost use lib.ListN.{length};
 use libc::STDOUT_FILENO;
 use log::Reading;
 use report::CopyOutcome;
 use report::Outcome;
 
-fn write(text: &[u8]) {
+pub fn write(text: &[u8]) {
     io::write_all(STDOUT_FILENO, text);
+}
+
+pub fn end_line() {
+    write(b"\n");
 }
 
 fn write_number(x: usize) {
     io::print_decimal(STDOUT_FILENO, x as u64);
 }
 
+// A text, and a number behind it.
+fn write_figure(text: &[u8], x: usize) {
+    write(text);
+    write_number(x);
+}
+
+fn write_refusal(number: u32, place: usize) {
+    write_figure(b"refused ", number as usize);
+    write_figure(b" at ", place);
+}
+
 // The answer of the reading, on the line that `name` begins.
 pub fn reading(name: &[u8], words: &[u32]) {
     write(name);
+    write(b": ");
     match log::read(words) {
         Reading::Passed(n, count) => {
-            write(b": episodes ");
-            write_number(n);
-            write(b" to words ");
-            write_number(count);
+            write_figure(b"episodes ", n);
+            write_figure(b" to words ", count);
         }
-        Reading::Refused(number, place) => {
-            write(b": refused ");
-            write_number(number as usize);
-            write(b" at ");
-            write_number(place);
-        }
+        Reading::Refused(number, place) => write_refusal(number, place),
     }
-    write(b"\n");
+    end_line();
 }
 
 // What each word of the buffers holds before a call.
@@ -51,8 +61,7 @@ fn write_words(buffer: &[u32], count: usize) {
 }
 
 fn write_number_of(w: u32) {
-    write(b" ");
-    write_number(log::number_of(w));
+    write_figure(b" ", log::number_of(w));
 }
 
 // The numbers of the words.
@@ -78,18 +87,33 @@ fn others(buffer: &[u32], x: u32) -> usize {
     count
 }
 
-// Says so where of the words from `from` on and before `to` some are not `x`.
-fn expect(buffer: &[u32], from: usize, to: usize, x: u32) {
-    if to < from {
-        return;
-    }
-    if buffer.len() < to {
-        return;
-    }
-    let count = others(&buffer[from..to], x);
+// Says so where some of the words are not `x`.
+fn expect(words: &[u32], x: u32) {
+    let count = others(words, x);
     if count != 0 {
-        write(b"; words not as they should be: ");
-        write_number(count);
+        write_figure(b"; words not as they should be: ", count);
+    }
+}
+
+// Says so where the first 16,384 work words are not zero, or those behind them do not hold the mark.
+fn expect_cleared(scratch: &[u32])
+    requires { ⌜ 16384 ≤ length (now scratch) ⌝ }
+{
+    expect(&scratch[0..16384], 0);
+    expect(&scratch[16384..], MARK);
+}
+
+// Says so where some word of the buffers does not hold the mark.
+fn expect_kept(out: &[u32; 64], scratch: &[u32; 16400]) {
+    expect(out, MARK);
+    expect(scratch, MARK);
+}
+
+// The first `count` words of the output; says so where those behind them do not hold the mark.
+fn write_output(out: &[u32], count: usize) {
+    write_words(out, count);
+    if count <= out.len() {
+        expect(&out[count..], MARK);
     }
 }
 
@@ -101,11 +125,9 @@ fn write_thread(report: &[u32], i: usize) {
         write(b"thread");
         write_numbers(steps);
     } else {
-        write(b"refused ");
-        write_number(number as usize);
+        write_figure(b"refused ", number as usize);
         if steps.len() != 0 {
-            write(b"; words not as they should be: ");
-            write_number(steps.len());
+            write_figure(b"; words not as they should be: ", steps.len());
         }
     }
 }
@@ -122,158 +144,133 @@ fn write_threads(report: &[u32], count: usize) {
     }
 }
 
-// Each thread of a report, and what is answered behind the last.
-fn write_all_threads(report: &[u32]) {
-    if report.len() == 0 {
+// Each thread of a report of `count` words, and what is answered behind the last.
+fn write_all_threads(out: &[u32], count: usize) {
+    if out.len() < count {
         return;
     }
-    write_threads(report, log::number_of(report[0]) + 1);
+    if count == 0 {
+        return;
+    }
+    write_threads(&out[0..count], log::number_of(out[0]) + 1);
+}
+
+// The start of a line: the call, and the name of the trial.
+fn write_start(call: &[u8], name: &[u8]) {
+    write(call);
+    write(name);
+    write(b": ");
 }
 
 // What asking for thread `i` of any words gives, on the line that `name` begins.
 pub fn thread(name: &[u8], report: &[u32], i: usize) {
-    write(b"thread ");
-    write_number(i);
-    write(b" of ");
-    write(name);
-    write(b": ");
+    write_figure(b"thread ", i);
+    write_start(b" of ", name);
     write_thread(report, i);
-    write(b"\n");
+    end_line();
 }
 
-// The outcome of a report call and its words, and how many words of the buffers are not as they should be. `lent` of the output words
-// are lent, and `work` of the work words; before the call all hold the mark.
-fn call(log: &[u32], out: &mut [u32], lent: usize, scratch: &mut [u32], work: usize) {
-    if out.len() < lent {
-        return;
+// The outcome of a report call or, where `copies`, of a fair copy call; a copy is given as a report is.
+fn ask(copies: bool, log: &[u32], out: &mut [u32], work: &mut [u32]) -> Outcome {
+    if !copies {
+        return report::report(log, out, work);
     }
-    if scratch.len() < work {
-        return;
-    }
-    match report::report(log, &mut out[0..lent], &mut scratch[0..work]) {
-        Outcome::Report(count) => {
-            write(b"words");
-            write_words(out, count);
-            expect(out, count, out.len(), MARK);
-            expect(scratch, 0, 16384, 0);
-            expect(scratch, 16384, scratch.len(), MARK);
-            if count <= out.len() {
-                write_all_threads(&out[0..count]);
-            }
-        }
-        Outcome::Loop(length) => {
-            write(b"refused 13 at ");
-            write_number(length);
-            if length < out.len() {
-                write(b", words");
-                write_words(out, length + 1);
-                expect(out, length + 1, out.len(), MARK);
-            }
-            expect(scratch, 0, 16384, 0);
-            expect(scratch, 16384, scratch.len(), MARK);
-        }
-        Outcome::Refused(number, place) => {
-            write(b"refused ");
-            write_number(number as usize);
-            write(b" at ");
-            write_number(place);
-            expect(out, 0, out.len(), MARK);
-            expect(scratch, 0, scratch.len(), MARK);
-        }
+    match report::fair_copy(log, out, work) {
+        CopyOutcome::Copied(count) => Outcome::Report(count),
+        CopyOutcome::Refused(number, place) => Outcome::Refused(number, place),
     }
 }
 
-// The outcome of a fair copy call and its words, and how many words of the buffers are not as they should be, in the same way.
-fn copy_call(log: &[u32], out: &mut [u32], lent: usize, scratch: &mut [u32], work: usize) {
-    if out.len() < lent {
-        return;
-    }
-    if scratch.len() < work {
-        return;
-    }
-    match report::fair_copy(log, &mut out[0..lent], &mut scratch[0..work]) {
-        CopyOutcome::Copied(count) => {
-            write(b"words");
-            write_words(out, count);
-            expect(out, count, out.len(), MARK);
-            expect(scratch, 0, 16384, 0);
-            expect(scratch, 16384, scratch.len(), MARK);
-        }
-        CopyOutcome::Refused(number, place) => {
-            write(b"refused ");
-            write_number(number as usize);
-            write(b" at ");
-            write_number(place);
-            expect(out, 0, out.len(), MARK);
-            expect(scratch, 0, scratch.len(), MARK);
-        }
+// The words of a report or of a fair copy, and how many words of the buffers are not as they should be; of a report, each thread too.
+fn write_answer(copies: bool, out: &[u32; 64], count: usize, scratch: &[u32; 16400]) {
+    write(b"words");
+    write_output(out, count);
+    expect_cleared(scratch);
+    if !copies {
+        write_all_threads(out, count);
     }
 }
 
-// What a fair copy call answers and leaves, on the line that `name` begins, with `lent` of 64 output words and `work` of 16,400 work words.
-pub fn copy(name: &[u8], log: &[u32], lent: usize, work: usize) {
+// A loop of `length` episodes, and how many words of the buffers are not as they should be.
+fn write_loop(out: &[u32; 64], length: usize, scratch: &[u32; 16400]) {
+    write_refusal(13, length);
+    if length < out.len() {
+        write(b", words");
+        write_output(out, length + 1);
+    }
+    expect_cleared(scratch);
+}
+
+// A refusal, and how many words of the buffers are not as they were.
+fn write_refused(number: u32, place: usize, out: &[u32; 64], scratch: &[u32; 16400]) {
+    write_refusal(number, place);
+    expect_kept(out, scratch);
+}
+
+// The outcome of a call, what it wrote, and how many words of the buffers are not as they should be.
+fn write_outcome(copies: bool, outcome: Outcome, out: &[u32; 64], scratch: &[u32; 16400]) {
+    match outcome {
+        Outcome::Report(count) => write_answer(copies, out, count, scratch),
+        Outcome::Loop(length) => write_loop(out, length, scratch),
+        Outcome::Refused(number, place) => write_refused(number, place, out, scratch),
+    }
+}
+
+// What a call answers and leaves, with `lent` of 64 output words and `work` of 16,400 work words. Before it all hold the mark.
+fn call(copies: bool, log: &[u32], lent: usize, work: usize)
+    requires { ⌜ (lent ≤ 64) × (work ≤ 16400) ⌝ }
+{
     let mut out = [MARK; 64];
     let mut scratch = [MARK; 16400];
-    write(b"copy of ");
-    write(name);
-    write(b": ");
-    copy_call(log, &mut out, lent, &mut scratch, work);
-    write(b"\n");
+    let outcome = ask(copies, log, &mut out[0..lent], &mut scratch[0..work]);
+    write_outcome(copies, outcome, &out, &scratch);
+    end_line();
 }
 
-// What a report call answers and leaves, on the line that `name` begins, with `lent` of 64 output words and `work` of 16,400 work words.
-pub fn report(name: &[u8], log: &[u32], lent: usize, work: usize) {
-    let mut out = [MARK; 64];
-    let mut scratch = [MARK; 16400];
-    write(b"report on ");
-    write(name);
-    write(b": ");
-    call(log, &mut out, lent, &mut scratch, work);
-    write(b"\n");
+// What a fair copy call answers and leaves, on the line that `name` begins.
+pub fn copy(name: &[u8], log: &[u32], lent: usize, work: usize)
+    requires { ⌜ (lent ≤ 64) × (work ≤ 16400) ⌝ }
+{
+    write_start(b"copy of ", name);
+    call(true, log, lent, work);
 }
 
-// The outcome of a fair copy call alone, of a log of any size and buffers that are just long enough for 4,096 to words.
-pub fn copy_outcome(name: &[u8], log: &[u32]) {
-    let mut out = [MARK; 8194];
-    let mut work = [MARK; 16384];
-    write(b"copy of ");
-    write(name);
-    match report::fair_copy(log, &mut out, &mut work) {
-        CopyOutcome::Copied(count) => {
-            write(b": count ");
-            write_number(count);
-        }
-        CopyOutcome::Refused(number, place) => {
-            write(b": refused ");
-            write_number(number as usize);
-            write(b" at ");
-            write_number(place);
-        }
+// What a report call answers and leaves, on the line that `name` begins.
+pub fn report(name: &[u8], log: &[u32], lent: usize, work: usize)
+    requires { ⌜ (lent ≤ 64) × (work ≤ 16400) ⌝ }
+{
+    write_start(b"report on ", name);
+    call(false, log, lent, work);
+}
+
+// An outcome without the words.
+fn write_count(outcome: Outcome) {
+    match outcome {
+        Outcome::Report(count) => write_figure(b"count ", count),
+        Outcome::Loop(length) => write_refusal(13, length),
+        Outcome::Refused(number, place) => write_refusal(number, place),
     }
-    write(b"\n");
 }
 
-// The outcome alone, of a log of any size and buffers that are just long enough for 200 episodes.
-pub fn outcome(name: &[u8], log: &[u32]) {
+// The outcome alone, with `lent` output words and 16,384 work words.
+fn outcome_of(copies: bool, log: &[u32], lent: usize)
+    requires { ⌜ lent ≤ 10502 ⌝ }
+{
     let mut out = [MARK; 10502];
     let mut work = [MARK; 16384];
-    write(b"report on ");
-    write(name);
-    match report::report(log, &mut out, &mut work) {
-        Outcome::Report(count) => {
-            write(b": count ");
-            write_number(count);
-        }
-        Outcome::Loop(length) => {
-            write(b": refused 13 at ");
-            write_number(length);
-        }
-        Outcome::Refused(number, place) => {
-            write(b": refused ");
-            write_number(number as usize);
-            write(b" at ");
-            write_number(place);
-        }
-    }
-    write(b"\n");
+    let outcome = ask(copies, log, &mut out[0..lent], &mut work);
+    write_count(outcome);
+    end_line();
+}
+
+// The outcome of a fair copy call alone, of a log of any size and an output that is just long enough for 4,096 to words.
+pub fn copy_outcome(name: &[u8], log: &[u32]) {
+    write_start(b"copy of ", name);
+    outcome_of(true, log, 8194);
+}
+
+// The outcome of a report call alone, of a log of any size and an output that is just long enough for 200 episodes.
+pub fn outcome(name: &[u8], log: &[u32]) {
+    write_start(b"report on ", name);
+    outcome_of(false, log, 10502);
 }

@@ -1,21 +1,34 @@
 -- `trials::full::fill` ends and stays within its slice. The invariant: the slice has kept its length.
 -- Assumes nothing.
 use borrow.Author.Needs.{needs}
-use native.Mathlib.Omega.{arith}
 use mathlib.Core.Path.{_≡_}
-use Prim.Native.Nat.{_≤_, _-_}
+use Prim.Native.Nat.{_≤_, _-_, _/_}
+use native.Mathlib.Nat.{mod-lt}
+use native.Mathlib.Omega.{arith}
 use lib.ListN.{length, length-set}
 use Rattle.trials.proofs.full.fill.Statement.{statement}
 use Rattle.trials.proofs.full.fill.Tie as tie
 
 abbrev Inv-loop : tie.InvT-loop
-Inv-loop words₀ odd even i₀ i-end words i = (i ≤ i-end) × (length words ≡ length words₀)
+Inv-loop words₀ odd even period i₀ i-end words i = (i ≤ i-end) × (length words ≡ length words₀)
 
 abbrev μ-loop : tie.MeasureT-loop
-μ-loop words₀ odd even i₀ i-end words i = i-end - i
+μ-loop words₀ odd even period i₀ i-end words i = i-end - i
 
 loop-holds : tie.Need-loop-holds Inv-loop μ-loop
 loop-holds c = omega arith
+
+rem-number : tie.Need-rem-number Inv-loop μ-loop
+rem-number c = omega arith
+
+cast-number : tie.Need-cast-number Inv-loop μ-loop
+cast-number c = omega (arith, mod-lt (c .before .loop .i / 2) (c .before .before .pre .2))
+
+add-words : tie.Need-add-words Inv-loop μ-loop
+add-words c = omega (arith, mod-lt (c .before .before .loop .i / 2) (c .before .before .before .pre .2))
+
+add-words-2 : tie.Need-add-words-2 Inv-loop μ-loop
+add-words-2 c = omega (arith, mod-lt (c .before .before .loop .i / 2) (c .before .before .before .pre .2))
 
 mul-words : tie.Need-mul-words Inv-loop μ-loop
 mul-words c = search needs
@@ -45,6 +58,10 @@ fill-spec =
     Inv-loop
     μ-loop
     loop-holds
+    rem-number
+    cast-number
+    add-words
+    add-words-2
     mul-words
     slice-write-words
     add-i
