@@ -2,7 +2,17 @@
 use mathlib.Core.Path.{_≡_, refl, ap, sym, ap₂}
 use mathlib.Core.Logic.{_⊎_, inl, inr, ⊎-elim}
 use mathlib.Core.Bool.{Bool, true, false, _&&_, _||_, true≢false, or-true, or-assoc}
-use mathlib.Core.List.{List, [], _∷_, _++_, List·Memᴰ as Mem, List·Memᴰ·head as here, List·Memᴰ·tail as there, List·Memᴰ·not-nil as not-nil, List·Memᴰ·cases-cons as mem-cases}
+use mathlib.Core.List.{
+  List,
+  [],
+  _∷_,
+  _++_,
+  List·Memᴰ as Mem,
+  List·Memᴰ·head as here,
+  List·Memᴰ·tail as there,
+  List·Memᴰ·not-nil as not-nil,
+  List·Memᴰ·cases-cons as mem-cases,
+}
 use Prim.Native.Nat.{ℕ, zero, suc, _+_, _*_, _<_, _≤_}
 use native.Mathlib.Decide.{ℕ-discrete}
 use native.Mathlib.Numerals.{add-one}

@@ -52,7 +52,8 @@ fn block_of(log: &[u32], a: usize, w: &mut [u32])
 
 // Writes the group of `a` from its row, and gives the count of its links.
 fn write_group(row: &[u32], a: usize, out: &mut [u32]) -> usize
-    requires { ⌜ (length (group a (marked (now row) (length (now row)))) < length (now out)) × (a < length (now row)) × (length (now row) < 2 ^ 28) ⌝ }
+    requires { ⌜ (length (group a (marked (now row) (length (now row)))) < length (now out))
+        × (a < length (now row)) × (length (now row) < 2 ^ 28) ⌝ }
     ensures { λ r. ⌜ GroupWritten a (marked (now (row .entry)) (length (now (row .entry)))) (now (out .entry)) (now (out .exit)) r ⌝ }
 {
     let mut links = 0;
@@ -72,7 +73,8 @@ fn write_group(row: &[u32], a: usize, out: &mut [u32]) -> usize
 
 // The links of `a`, marked and written.
 fn copy_row(log: &[u32], n: usize, a: usize, out: &mut [u32], w: &mut [u32]) -> usize
-    requires { ⌜ PassedLog (now log) × (graphOf (now log) .n ≡ n) × (n ≤ 256) × (length (now w) ≡ blockWords) × (a % 64 ≢ 0 → BlockMarks (a / 64) (graphOf (now log)) (now w))
+    requires { ⌜ PassedLog (now log) × (graphOf (now log) .n ≡ n) × (n ≤ 256) × (length (now w) ≡ blockWords)
+        × (a % 64 ≢ 0 → BlockMarks (a / 64) (graphOf (now log)) (now w))
         × (a < n) × (length (group a (linkedTo a (graphOf (now log) .links) n)) < length (now out)) ⌝ }
     ensures { λ r. ⌜ BlockMarks (a / 64) (graphOf (now (log .entry))) (now (w .exit))
         × GroupWritten a (linkedTo a (graphOf (now (log .entry)) .links) n) (now (out .entry)) (now (out .exit)) r ⌝ }
@@ -98,7 +100,8 @@ struct Written {
 
 // Writes the groups of all episodes behind the first word.
 fn write_groups(log: &[u32], n: usize, out: &mut [u32], w: &mut [u32]) -> Written
-    requires { ⌜ PassedLog (now log) × (graphOf (now log) .n ≡ n) × (length (now w) ≡ blockWords) × (length (fairWords (graphOf (now log))) ≤ length (now out)) ⌝ }
+    requires { ⌜ PassedLog (now log) × (graphOf (now log) .n ≡ n) × (length (now w) ≡ blockWords)
+        × (length (fairWords (graphOf (now log))) ≤ length (now out)) ⌝ }
     ensures { λ r. ⌜ GroupsWritten (graphOf (now (log .entry))) (now (out .entry)) (now (out .exit)) (r .words) (r .links) ⌝ }
 {
     let mut words = 1;
@@ -115,8 +118,10 @@ fn write_groups(log: &[u32], n: usize, out: &mut [u32], w: &mut [u32]) -> Writte
 
 // Writes the fair copy of a log that passes with `n` episodes, and gives its count of words.
 pub fn write_copy(log: &[u32], n: usize, out: &mut [u32], w: &mut [u32]) -> usize
-    requires { ⌜ PassedLog (now log) × (graphOf (now log) .n ≡ n) × (length (now w) ≡ blockWords) × (length (fairWords (graphOf (now log))) ≤ length (now out)) ⌝ }
-    ensures { λ r. ⌜ (r ≡ length (fairWords (graphOf (now (log .entry))))) × BeginsWith (fairWords (graphOf (now (log .entry)))) (now (out .entry)) (now (out .exit)) ⌝ }
+    requires { ⌜ PassedLog (now log) × (graphOf (now log) .n ≡ n) × (length (now w) ≡ blockWords)
+        × (length (fairWords (graphOf (now log))) ≤ length (now out)) ⌝ }
+    ensures { λ r. ⌜ (r ≡ length (fairWords (graphOf (now (log .entry)))))
+        × BeginsWith (fairWords (graphOf (now (log .entry)))) (now (out .entry)) (now (out .exit)) ⌝ }
 {
     let groups = write_groups(log, n, out, w);
     let words = groups.words;

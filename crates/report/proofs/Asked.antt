@@ -48,7 +48,8 @@ module _ (m : Ceilings) (need : ℕ → ℕ → ℕ) (l : List ℕ) (out work n 
           (f ∙ second .1, rw (← a, ← b) (leb-true (need j u) out (first .0)), leb-true workWords work (second .0))
 
 -- where one of them is answered no, that is the refusal
-pub asked-denied : (m : Ceilings) (need : ℕ → ℕ → ℕ) (l : List ℕ) (out work q p : ℕ) → questions m l ≡ refused q p → asked m need l out work ≡ refused q p
+pub asked-denied : (m : Ceilings) (need : ℕ → ℕ → ℕ) (l : List ℕ) (out work q p : ℕ) → questions m l ≡ refused q p
+    → asked m need l out work ≡ refused q p
 unfolding asked
 asked-denied m need l out work q p e = rw (e, asked)
 

@@ -95,8 +95,11 @@ pub enum CopyOutcome {
 
 // The fair copy of a log that passes, in work words of which none is left as it was.
 fn copy(log: &[u32], n: usize, out: &mut [u32], work: &mut [u32]) -> usize
-    requires { ⌜ PassedLog (now log) × (graphOf (now log) .n ≡ n) × (length (fairWords (graphOf (now log))) ≤ length (now out)) × (length (now work) ≡ workWords) ⌝ }
-    ensures { λ r. ⌜ (r ≡ length (fairWords (graphOf (now (log .entry))))) × BeginsWith (fairWords (graphOf (now (log .entry)))) (now (out .entry)) (now (out .exit)) × (now (work .exit) ≡ replicate (length (now (work .entry))) 0) ⌝ }
+    requires { ⌜ PassedLog (now log) × (graphOf (now log) .n ≡ n)
+        × (length (fairWords (graphOf (now log))) ≤ length (now out)) × (length (now work) ≡ workWords) ⌝ }
+    ensures { λ r. ⌜ (r ≡ length (fairWords (graphOf (now (log .entry)))))
+        × BeginsWith (fairWords (graphOf (now (log .entry)))) (now (out .entry)) (now (out .exit))
+        × (now (work .exit) ≡ replicate (length (now (work .entry))) 0) ⌝ }
 {
     let words = copying::write_copy(log, n, out, work);
     bits::clear(work);
