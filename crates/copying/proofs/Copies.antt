@@ -9,7 +9,7 @@ use Rattle.paths.specs.Graph.{Graph}
 use Rattle.log.specs.Words.{word}
 use Rattle.log.specs.Log.{graphOf, PassedLog}
 use Rattle.log.proofs.Words.{number-lt}
-use Rattle.log.proofs.Laws.{well-formed, graph-count}
+use Rattle.log.proofs.Laws.{words-small, graph-count}
 use Rattle.writing.specs.Layout.{BeginsWith}
 use Rattle.writing.proofs.Buffers.{begins-itself, begins-first, begins-more, begins-length, begins-part, lent-part, lent-rest}
 use Rattle.copying.specs.FairCopy.{linkedTo, group, groups, groupLinks, fairWords}
@@ -23,10 +23,7 @@ episodes-few l = number-lt (getD l 0 0)
 
 pub links-few : (l : List ℕ) → PassedLog l → (k : ℕ) → length (groupLinks (graphOf l) k) < 2 ^ 28
 links-few l (m, n, t, e, few) k =
-    let count : length (graphOf l .links) ≡ t = graph-count m l n t e in
-    let fits = number-lt (getD l (length l - 1) 0) in
-    let end = well-formed m l n t e .end-number in
-    omega (arith, length-group-links (graphOf l) k)
+    omega (arith, words-small m l n t e, graph-count m l n t e, length-group-links (graphOf l) k)
 
 group-links-more : (g : Graph) (a : ℕ) → groupLinks g (a + 1) ≡ groupLinks g a ++ linksOf a (linkedTo a (g .links) (g .n))
 unfolding groupLinks

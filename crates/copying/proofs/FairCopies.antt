@@ -3,7 +3,7 @@
 use mathlib.Core.Path.{_≡_, refl, _∙_, ap, ap₂, sym}
 use mathlib.Core.Logic.{_↔_}
 use mathlib.Core.List.{List, _++_, List·Nodup}
-use Prim.Native.Nat.{ℕ, zero, suc, _-_, _<_, _≤_}
+use Prim.Native.Nat.{ℕ, zero, suc, _<_, _≤_}
 use native.Mathlib.Omega.{arith}
 use lib.ListN.{length, getD}
 use Rattle.paths.specs.Graph.{Graph, Link, EndsBelow, SameLinks}
@@ -15,7 +15,7 @@ use Rattle.log.specs.Answer.{given}
 use Rattle.log.specs.Log.{questions, graphOf}
 use Rattle.log.specs.declared.Ceilings.{Ceilings}
 use Rattle.log.proofs.Words.{number-lt}
-use Rattle.log.proofs.Laws.{well-formed, few-episodes, few-words, graph-episodes, graph-count, links-below}
+use Rattle.log.proofs.Laws.{words-small, few-episodes, few-words, graph-episodes, graph-count, links-below}
 use Rattle.copying.specs.FairCopy.{linked, linkedTo, group, groups, groupLinks, fairWords, fairNeed}
 use Rattle.copying.proofs.Linked.{linkedTo-mem, mem-linkedTo}
 use Rattle.copying.proofs.GroupLinks.{linksOf, group-links-mem, mem-group-links, group-links-nodup, length-group-links, fair-fits}
@@ -86,9 +86,7 @@ module _ (m : Ceilings) (l : List ℕ) (n t : ℕ) (e : questions m l ≡ given 
   log-few = number-lt (getD l 0 0)
 
   log-count : Small (length (graphOf l .links))
-  log-count =
-      let f = well-formed m l n t e in
-      omega (arith, graph-count m l n t e, f .end-number, number-lt (getD l (length l - 1) 0))
+  log-count = omega (arith, graph-count m l n t e, words-small m l n t e)
 
   -- it passes, with the same episodes and one to word for each link
   pub copy-read : questions m (fairWords (graphOf l)) ≡ given (n, length (groupLinks (graphOf l) n))

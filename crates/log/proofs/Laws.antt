@@ -7,10 +7,11 @@ use native.Mathlib.Decide.{ℕ-discrete}
 use native.Mathlib.Omega.{arith}
 use lib.ListN.{length, getD, drop}
 use Rattle.paths.specs.Graph.{EndsBelow}
-use Rattle.log.specs.Words.{kind, number}
+use Rattle.log.specs.Words.{kind, number, Small}
 use Rattle.log.specs.Answer.{given}
 use Rattle.log.specs.Log.{questions, graphOf}
 use Rattle.log.specs.declared.Ceilings.{Ceilings}
+use Rattle.log.proofs.Words.{number-lt}
 use Rattle.log.proofs.Links as links
 use Rattle.log.proofs.Links.{links-count, linksBefore, nearestFrom}
 use Rattle.log.proofs.WellFormed as forms
@@ -31,6 +32,10 @@ module _ (m : Ceilings) (l : List ℕ) (n t : ℕ) (e : questions m l ≡ given 
 
   pub few-words : t ≤ m .words
   few-words = forms.well-formed m l n t e .few-words
+
+  -- `t` is the number of a word, the end
+  pub words-small : Small t
+  words-small = rw (forms.well-formed m l n t e .end-number) at (number-lt (getD l (length l - 1) 0))
 
   -- the graph has `n` episodes and `t` links, and the links join episodes
   pub graph-episodes : graphOf l .n ≡ n

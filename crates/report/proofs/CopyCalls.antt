@@ -1,13 +1,12 @@
 -- A fair copy call by what its questions answer: from each answer to what the call leaves.
 use mathlib.Core.Path.{_≡_, refl, sym}
 use mathlib.Core.List.{List}
-use Prim.Native.Nat.{ℕ, _-_, _^_, _≤_, _<_}
-use lib.ListN.{length, getD}
+use Prim.Native.Nat.{ℕ, _≤_, _<_}
+use lib.ListN.{length}
 use Rattle.log.specs.Answer.{given, refused}
 use Rattle.log.specs.Log.{questions, graphOf}
 use Rattle.log.specs.declared.Ceilings.{Ceilings}
-use Rattle.log.proofs.Words.{number-lt}
-use Rattle.log.proofs.Laws.{well-formed, graph-count}
+use Rattle.log.proofs.Laws.{graph-count}
 use Rattle.writing.specs.Layout.{BeginsWith}
 use Rattle.copying.specs.FairCopy.{fairWords, fairNeed}
 use Rattle.report.specs.Report.{workWords, cleared}
@@ -15,10 +14,6 @@ use Rattle.report.specs.Copied.{CopyLeft}
 use Rattle.report.specs.declared.CopyOutcome.the-variants.{Copied, Refused}
 use Rattle.report.proofs.Asked.{asked-denied, asked-short-output, asked-short-work, asked-passes}
 use Rattle.report.proofs.Reported.{read-graph}
-
--- the count of to words is the number of a word
-pub words-few : (m : Ceilings) (l : List ℕ) (n t : ℕ) → questions m l ≡ given (n, t) → t < 2 ^ 28
-words-few m l n t e = rw (well-formed m l n t e .end-number) at (number-lt (getD l (length l - 1) 0))
 
 -- refused by 1 to 10
 pub copy-denied : (m : Ceilings) (l o w : List ℕ) (q p : ℕ) → questions m l ≡ refused q p → CopyLeft m l o w o w (Refused q p)

@@ -7,11 +7,11 @@ use native.Mathlib.Omega.{arith}
 use lib.Seq.{length-take-le}
 use Rattle.log.specs.Answer.{given}
 use Rattle.log.specs.Log.{questions}
-use Rattle.log.proofs.Laws.{few-episodes, graph-episodes}
+use Rattle.log.proofs.Laws.{few-episodes, graph-episodes, words-small}
 use Rattle.copying.proofs.FairCopies.{copy-fits}
 use Rattle.report.specs.Report.{workWords}
 use Rattle.report.proofs.Calls.{told, work-cleared}
-use Rattle.report.proofs.CopyCalls.{words-few, copy-denied, copy-short-output, copy-short-work, copy-left}
+use Rattle.report.proofs.CopyCalls.{copy-denied, copy-short-output, copy-short-work, copy-left}
 use Rattle.report.proofs.fair_copy_within.Statement.{statement}
 use Rattle.report.proofs.fair_copy_within.Tie as tie
 
@@ -34,7 +34,7 @@ passed at = told (at .before .before .read-within .ensures) (at .n .given .1)
 
 -- the to words are few
 few : (at : tie.After-n) → at .n .given .0 .1 .0 < 2 ^ 28
-few at = words-few (start at .args .most) (start at .args .log .now) (at .n .given .0 .0) (at .n .given .0 .1 .0) (passed at)
+few at = words-small (start at .args .most) (start at .args .log .now) (at .n .given .0 .0) (at .n .given .0 .1 .0) (passed at)
 
 mul-needed : tie.Need-mul-needed
 mul-needed c = omega (arith, few (c .before))
