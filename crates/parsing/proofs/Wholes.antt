@@ -10,7 +10,7 @@ use Rattle.order.specs.Order.{All}
 use Rattle.log.specs.Words.{kind, number, word, Small}
 use Rattle.writing.specs.Layout.{threadWords, threadsWords, ended, reportWords, SmallThread, apartOf, threadsOf}
 use Rattle.writing.proofs.Layouts.{apart-of-report, threads-of-report}
-use Rattle.parsing.specs.Whole.{IsReport, Whole}
+use Rattle.parsing.specs.Whole.{IsReport, Whole, threadPlace}
 use Rattle.parsing.specs.Parsing.{OfKind, ThreadsEnd, WholeTest, ThreadAt}
 use Rattle.parsing.proofs.Runs.{run-words, run-kinds}
 use Rattle.parsing.proofs.ThreadParse.{
@@ -110,10 +110,10 @@ module _ (ws apart : List ℕ) (threads : List (List ℕ)) (report : IsReport ws
 
   -- thread `i` stands behind the `i` threads before it
   pub report-thread : (k i r : ℕ) → number (getD ws 0 0) ≡ k → ThreadsEnd ws (k + 1) i r → i < length threads
-      → (rest : List ℕ) × (drop r ws ≡ threadWords (getD threads i []) ++ rest)
+      → (r ≡ threadPlace apart threads i) × (rest : List ℕ) × (drop r ws ≡ threadWords (getD threads i []) ++ rest)
   report-thread k i r width ends lt =
       let behind = thread-behind ws (k + 1) i r ends threads (theEnd apart threads) lt (report .threads-fit) (from-threads k width) in
-      (threadsWords (drop (suc i) threads) ++ theEnd apart threads, behind .1)
+      (omega (arith, behind .0, report-head .1), threadsWords (drop (suc i) threads) ++ theEnd apart threads, behind .1)
 
 -- A whole report is one in one way only: its apart set and its threads are those that its words give back.
 pub report-read : (ws apart : List ℕ) (threads : List (List ℕ)) → IsReport ws apart threads
@@ -183,7 +183,7 @@ module _ (ws apart : List ℕ) (threads : List (List ℕ)) (report : IsReport ws
     (there : ThreadAt ws i r) where
   thread-stands : ThreadHere ws r (length (getD threads i []))
   thread-stands =
-      let (rest, words) = there apart threads report lt in
+      let (place, rest, words) = there apart threads report lt in
       thread-here ws r (getD threads i []) rest (fit-at threads i lt (report .threads-fit)) words
 
   pub thread-room : Room ws r
@@ -196,7 +196,7 @@ module _ (ws apart : List ℕ) (threads : List (List ℕ)) (report : IsReport ws
   unfolding threadWords
   thread-steps =
       let t : List ℕ = getD threads i [] in
-      let (rest, words) = there apart threads report lt in
+      let (place, rest, words) = there apart threads report lt in
       let behind : drop (r + 1) ws ≡ map (word 7) t ++ rest = drop-behind ws r (word 6 (length t) ∷ []) (map (word 7) t ++ rest) words in
       ap (take (number (getD ws r 0))) behind
       ∙ take-at (map (word 7) t) rest (number (getD ws r 0)) (omega (arith, thread-stands .count, length-map t (word 7)))

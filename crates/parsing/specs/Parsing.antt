@@ -7,7 +7,7 @@ use lib.ListN.{length, getD, drop}
 use Rattle.order.specs.Order.{All}
 use Rattle.log.specs.Words.{kind}
 use Rattle.writing.specs.Layout.{threadWords, threadsWords}
-use Rattle.parsing.specs.Whole.{ThreadFits, IsReport, Whole}
+use Rattle.parsing.specs.Whole.{ThreadFits, IsReport, Whole, threadPlace}
 
 -- all words from `from` on and before `end` are of kind `k`
 abbrev pub OfKind : List ℕ → ℕ → ℕ → ℕ → Type 0
@@ -40,4 +40,4 @@ pub record WholeTest (ws : List ℕ) (r : Bool) : Type 0 where
 abbrev pub ThreadAt : List ℕ → ℕ → ℕ → Type 0
 ThreadAt ws i r =
     (apart : List ℕ) (threads : List (List ℕ)) → IsReport ws apart threads → i < length threads
-    → (rest : List ℕ) × (drop r ws ≡ threadWords (getD threads i []) ++ rest)
+    → (r ≡ threadPlace apart threads i) × (rest : List ℕ) × (drop r ws ≡ threadWords (getD threads i []) ++ rest)

@@ -2,11 +2,11 @@
 use mathlib.Core.Path.{_≡_}
 use mathlib.Core.Logic.{_⊎_, _↔_}
 use mathlib.Core.List.{List, [], map}
-use Prim.Native.Nat.{ℕ, _-_, _≤_, _<_, _^_}
+use Prim.Native.Nat.{ℕ, _+_, _-_, _≤_, _<_, _^_}
 use lib.ListN.{length, getD, take, drop}
 use Rattle.order.specs.Order.{All}
 use Rattle.log.specs.Words.{word, Small}
-use Rattle.writing.specs.Layout.{reportWords, SmallThread}
+use Rattle.writing.specs.Layout.{reportWords, threadsWords, SmallThread}
 
 -- a thread of the layout: it has a step, and words can hold its length and its steps
 abbrev pub ThreadFits : List ℕ → Type 0
@@ -46,3 +46,15 @@ pub record ThreadSteps (ws : List ℕ) (i : ℕ) (s : List ℕ) : Type 0 where
   pub part : (a : ℕ) × (b : ℕ) × (a ≤ b) × (b ≤ length ws) × (s ≡ take (b - a) (drop a ws))
   pub steps : (apart : List ℕ) (threads : List (List ℕ)) → IsReport ws apart threads → i < length threads → s ≡ map (word 7) (getD threads i [])
   pub empty : (HasThread ws i → ⊥) → s ≡ []
+
+-- where thread `i` stands in a report's words: behind the width, the apart set and the threads before it
+abbrev pub threadPlace : List ℕ → List (List ℕ) → ℕ → ℕ
+threadPlace apart threads i = length apart + 1 + length (threadsWords (take i threads))
+
+-- The same stretch by its ends, from `a` on and before `b`: behind the word of thread `i`, or 0 and 0 where there is no such thread.
+pub record ThreadStretch (ws : List ℕ) (i a b : ℕ) : Type 0 where
+  pub rises : a ≤ b
+  pub inside : b ≤ length ws
+  pub steps : ThreadSteps ws i (take (b - a) (drop a ws))
+  pub starts : (apart : List ℕ) (threads : List (List ℕ)) → IsReport ws apart threads → i < length threads → a ≡ threadPlace apart threads i + 1
+  pub nowhere : (HasThread ws i → ⊥) → (a ≡ 0) × (b ≡ 0)

@@ -6,7 +6,7 @@ use Prim.Native.Nat.{ℕ, _+_, _-_, _≤_, _<_}
 use native.Mathlib.Omega.{arith}
 use lib.ListN.{length, getD, take, drop}
 use Rattle.log.specs.Words.{number}
-use Rattle.parsing.specs.Whole.{IsReport, Whole, HasThread, HasNoThread, ThreadNumber, ThreadSteps}
+use Rattle.parsing.specs.Whole.{IsReport, Whole, HasThread, HasNoThread, ThreadNumber, ThreadStretch}
 use Rattle.parsing.specs.Parsing.{ThreadAt}
 use Rattle.parsing.proofs.Wholes.{report-head, thread-room, thread-steps}
 
@@ -49,22 +49,34 @@ module _ (ws : List ℕ) (i : ℕ) where
       }
 
   -- the empty stretch, where there is no thread `i`
-  pub no-steps : (HasThread ws i → ⊥) → ThreadSteps ws i []
-  no-steps none =
+  pub no-stretch : (HasThread ws i → ⊥) → ThreadStretch ws i 0 0
+  no-stretch none =
       record {
-        part = (0, 0, omega arith, omega arith, refl);
-        steps = λ apart threads report lt. absurd (none (apart, threads, report, lt));
-        empty = λ n. refl;
+        rises = omega arith;
+        inside = omega arith;
+        steps = record {
+          part = (0, 0, omega arith, omega arith, refl);
+          steps = λ apart threads report lt. absurd (none (apart, threads, report, lt));
+          empty = λ n. refl;
+        };
+        starts = λ apart threads report lt. absurd (none (apart, threads, report, lt));
+        nowhere = λ n. (refl, refl);
       }
 
   -- the stretch of the thread that stands at `r`
-  pub its-steps : HasThread ws i → (r end : ℕ) → ThreadAt ws i r → end ≡ r + 1 + number (getD ws r 0)
-      → ThreadSteps ws i (take (end - (r + 1)) (drop (r + 1) ws))
-  its-steps has r end there last =
+  pub its-stretch : HasThread ws i → (r end : ℕ) → ThreadAt ws i r → end ≡ r + 1 + number (getD ws r 0) → ThreadStretch ws i (r + 1) end
+  its-stretch has r end there last =
       let long : end - (r + 1) ≡ number (getD ws r 0) = omega arith in
+      let inside : end ≤ length ws = omega (arith, thread-room ws (has .0) (has .1) (has .2) i r (has .3) there .1) in
       record {
-        part = (r + 1, end, omega arith, omega (arith, thread-room ws (has .0) (has .1) (has .2) i r (has .3) there .1), refl);
-        steps = λ apart threads report lt.
-            ap (λ (x : ℕ). take x (drop (r + 1) ws)) long ∙ thread-steps ws apart threads report i r lt there;
-        empty = λ none. absurd (none has);
+        rises = omega arith;
+        inside = inside;
+        steps = record {
+          part = (r + 1, end, omega arith, inside, refl);
+          steps = λ apart threads report lt.
+              ap (λ (x : ℕ). take x (drop (r + 1) ws)) long ∙ thread-steps ws apart threads report i r lt there;
+          empty = λ none. absurd (none has);
+        };
+        starts = λ apart threads report lt. omega (arith, there apart threads report lt .0);
+        nowhere = λ none. absurd (none has);
       }

@@ -5,7 +5,7 @@ ghost use lib.ListN.{length, replicate};
 ghost use Rattle.paths.specs.Graph.{Graph};
 ghost use Rattle.log.specs.Log.{service, graphOf, PassedLog};
 ghost use Rattle.writing.specs.Layout.{reportNeed, BeginsWith};
-ghost use Rattle.parsing.specs.Whole.{ThreadNumber, ThreadSteps};
+ghost use Rattle.parsing.specs.Whole.{ThreadNumber, ThreadSteps, ThreadStretch};
 ghost use Rattle.copying.specs.FairCopy.{fairWords};
 ghost use Rattle.report.specs.Report.{workWords, Left};
 ghost use Rattle.report.specs.Solving.{Ready, Answered};
@@ -149,15 +149,31 @@ pub fn thread_number(report: &[u32], i: usize) -> u32
     0
 }
 
-// The steps of thread `i` as a part of the report's words, empty where `thread_number` refuses.
-pub fn thread_steps(report: &[u32], i: usize) -> &[u32]
-    ensures { λ r. ⌜ ThreadSteps (now (report .entry)) i (now r) ⌝ }
+// Where the steps of thread `i` stand in the report's words: from `start` on and before `end`. The stretch is empty where `thread_number`
+// refuses.
+pub struct Stretch {
+    pub start: usize,
+    pub end: usize,
+}
+
+pub fn thread_stretch(report: &[u32], i: usize) -> Stretch
+    ensures { λ r. ⌜ ThreadStretch (now (report .entry)) i (r .start) (r .end) ⌝ }
 {
     if thread_number(report, i) != 0 {
-        return &report[0..0];
+        return Stretch { start: 0, end: 0 };
     }
     let at = parsing::thread_at(report, i);
     let start = at + 1;
     let end = start + log::number_of(report[at]);
+    Stretch { start, end }
+}
+
+// The steps of thread `i` as a part of the report's words, empty where `thread_number` refuses.
+pub fn thread_steps(report: &[u32], i: usize) -> &[u32]
+    ensures { λ r. ⌜ ThreadSteps (now (report .entry)) i (now r) ⌝ }
+{
+    let stretch = thread_stretch(report, i);
+    let start = stretch.start;
+    let end = stretch.end;
     &report[start..end]
 }

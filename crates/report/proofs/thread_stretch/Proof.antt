@@ -1,30 +1,21 @@
--- `report::thread_steps` meets its contract: the part that is given back is the steps of the thread that is there.
+-- `report::thread_stretch` meets its contract: the stretch is the steps of the thread that is there.
 -- Assumes nothing.
 use native.Mathlib.Omega.{arith}
 use borrow.Author.Needs.{needs}
 use denote.Ref.{now}
 use Rattle.parsing.specs.Whole.{HasThread}
 use Rattle.parsing.proofs.Wholes.{Room, thread-room}
-use Rattle.report.proofs.ThreadCalls.{no-steps, its-steps}
-use Rattle.report.proofs.thread_steps.Statement.{statement}
-use Rattle.report.proofs.thread_steps.Tie as tie
+use Rattle.report.proofs.ThreadCalls.{no-stretch, its-stretch}
+use Rattle.report.proofs.thread_stretch.Statement.{statement}
+use Rattle.report.proofs.thread_stretch.Tie as tie
 
 thread-number-requires : tie.Need-thread-number-requires
 thread-number-requires c κs = search needs
 
-sub-result : tie.Need-sub-result
-sub-result c = search needs
-
-part-result-start : tie.Need-part-result-start
-part-result-start c = search needs
-
-part-result-end : tie.Need-part-result-end
-part-result-end c = search needs
-
 returns : tie.Need-returns
 returns c =
-    let a = c .before .before .before .before .args in
-    no-steps (now (a .report)) (a .i) (λ has. omega (arith, c .before .before .thread-number .ensures .given .1 has))
+    let a = c .before .before .before .args in
+    no-stretch (now (a .report)) (a .i) (λ has. omega (arith, c .before .thread-number .ensures .given .1 has))
 
 -- behind the test the words are a whole report with a thread `i`
 found : (at : tie.Else1) → HasThread (now (at .before .before .before .args .report)) (at .before .before .before .args .i)
@@ -55,32 +46,17 @@ number-of-requires c κs = search needs
 add-end : tie.Need-add-end
 add-end c = omega (arith, room (c .before .before) .1)
 
-mul-result : tie.Need-mul-result
-mul-result c = omega (arith, room (c .before .before) .1)
-
-sub-result-2 : tie.Need-sub-result-2
-sub-result-2 c = omega (arith, room (c .before .before))
-
-part-result-start-2 : tie.Need-part-result-start-2
-part-result-start-2 c = omega (arith, room (c .before .before))
-
-part-result-end-2 : tie.Need-part-result-end-2
-part-result-end-2 c = omega (arith, room (c .before .before) .1)
-
 returns-2 : tie.Need-returns-2
 returns-2 c =
-    let a = c .before .before .before .before .before .before .before .args in
-    let at = c .before .before .before in
-    its-steps (now (a .report)) (a .i) (found (at .before)) (at .thread-at .result) _ (at .thread-at .ensures) (omega arith)
+    let at = c .before .before in
+    let a = at .before .before .before .before .args in
+    its-stretch (now (a .report)) (a .i) (found (at .before)) (at .thread-at .result) _ (at .thread-at .ensures) (omega arith)
 
-pub thread-steps-spec : {M : Type 1} → statement M
-thread-steps-spec =
+pub thread-stretch-spec : {M : Type 1} → statement M
+thread-stretch-spec =
     tie.close
     (tie.spec
     thread-number-requires
-    sub-result
-    part-result-start
-    part-result-end
     returns
     thread-at-requires
     add-start
@@ -88,8 +64,4 @@ thread-steps-spec =
     shared-slice-read-number-of
     number-of-requires
     add-end
-    mul-result
-    sub-result-2
-    part-result-start-2
-    part-result-end-2
     returns-2)

@@ -1,0 +1,60 @@
+/* The sleeper report: the four services of the proved library, for C. Link build/libzohapy.a.
+ *
+ * A log is an array of 32-bit words; a word's top 4 bits are its kind and its low 28 bits its number. Every call ends with an answer or
+ * one numbered refusal, on any content and length. A pointer must be aligned and not null, also where the length is 0, and no two arrays
+ * may share a word. Nothing is allocated, and nothing is kept between calls. */
+#ifndef ZOHAPY_H
+#define ZOHAPY_H
+
+#include <stddef.h>
+#include <stdint.h>
+
+#ifdef __cplusplus
+extern "C" {
+#endif
+
+/* The work words that a report or a fair copy needs. */
+#define ZOHAPY_WORK_WORDS 16384
+
+/* The output words that a report on n episodes needs, and a fair copy of a log with t to words. */
+#define ZOHAPY_REPORT_WORDS(n) (2 + 2 * (size_t)(n) + ((size_t)(n) + 1) * ((size_t)(n) + 1) / 4)
+#define ZOHAPY_COPY_WORDS(t) (2 + 2 * (size_t)(t))
+
+typedef struct {
+    uint32_t number; /* 0, or the refusal's number, 1 to 10 */
+    size_t place;    /* the refusal's place, in words from 0; else 0 */
+    size_t episodes; /* n, where number is 0; else 0 */
+    size_t links;    /* the count of to words, where number is 0; else 0 */
+} zohapy_read_answer;
+
+typedef struct {
+    uint32_t number; /* 0, or the refusal's number, 1 to 13 */
+    size_t value;    /* the count of words written, where number is 0; else the refusal's place */
+} zohapy_answer;
+
+typedef struct {
+    uint32_t number; /* 0, 16: no whole report, or 17: no thread i */
+    size_t start;    /* the place of the thread's first step in the report, where number is 0; else 0 */
+    size_t length;   /* how many steps it has, where number is 0; else 0 */
+} zohapy_thread_answer;
+
+/* Reads a log: questions 1 to 10. */
+zohapy_read_answer zohapy_read(const uint32_t *log, size_t log_words);
+
+/* The report on a log: a smallest path cover and the right-most maximum antichain, of the same size. Refusals 1 to 12 change no word.
+ * After 0 the output begins with the report, after 13 with a loop of the log: a word of kind 8 with its length, which is also the place,
+ * and its episodes. The output is unchanged behind them, the first 16,384 work words are zero, and the others unchanged. */
+zohapy_answer zohapy_report(const uint32_t *log, size_t log_words, uint32_t *out, size_t out_words, uint32_t *work, size_t work_words);
+
+/* The fair copy of a log: one form for all logs with the same n and the same set of links. Refusals 1 to 12 change no word. After 0 the
+ * output begins with the copy; the rest of both buffers is as after a report. */
+zohapy_answer zohapy_fair_copy(const uint32_t *log, size_t log_words, uint32_t *out, size_t out_words, uint32_t *work, size_t work_words);
+
+/* The steps of thread i of a report, counted from 0: report[start] to report[start + length - 1], each a word of kind 7. */
+zohapy_thread_answer zohapy_thread(const uint32_t *report, size_t report_words, size_t i);
+
+#ifdef __cplusplus
+}
+#endif
+
+#endif

@@ -1,0 +1,13 @@
+//! Links the static library that `./library` writes.
+
+use std::path::Path;
+
+fn main() {
+    let root = Path::new(env!("CARGO_MANIFEST_DIR")).parent().expect("the crate stands in the repository");
+    let folder = root.join("build");
+    let library = folder.join("libzohapy.a");
+    assert!(library.exists(), "{} is missing: run ./library first", library.display());
+    println!("cargo::rerun-if-changed={}", library.display());
+    println!("cargo::rustc-link-search=native={}", folder.display());
+    println!("cargo::rustc-link-lib=static=zohapy");
+}

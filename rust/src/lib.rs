@@ -1,0 +1,151 @@
+//! The sleeper report for Rust programs: the four services of the proved library, on lent buffers.
+//!
+//! A log is a list of 32-bit words; a word's top 4 bits are its kind and its low 28 bits its number. Each call ends, on any log and any
+//! buffers, with an answer or one numbered refusal, and what it leaves in every word of the buffers is fixed:
+//!
+//! - after a refusal 1 to 12 no buffer has changed;
+//! - otherwise the output begins with the report, the loop or the copy and is unchanged behind it, and the first [`WORK_WORDS`] work words
+//!   are zero, the others unchanged.
+
+/// The work words that a report or a fair copy needs.
+pub const WORK_WORDS: usize = 16_384;
+
+/// The output words that a report on `episodes` episodes needs.
+pub const fn report_words(episodes: usize) -> usize {
+    2 + 2 * episodes + (episodes + 1) * (episodes + 1) / 4
+}
+
+/// The output words that a fair copy of a log with `links` to words needs.
+pub const fn copy_words(links: usize) -> usize {
+    2 + 2 * links
+}
+
+/// The kind of a word: its top 4 bits.
+pub const fn kind(word: u32) -> u32 {
+    word >> 28
+}
+
+/// The number of a word: its low 28 bits.
+pub const fn number(word: u32) -> u32 {
+    word & 0x0FFF_FFFF
+}
+
+/// A refusal: its number and its place.
+#[derive(Clone, Copy, Debug, PartialEq, Eq)]
+pub struct Refusal {
+    pub number: u32,
+    pub place: usize,
+}
+
+impl std::fmt::Display for Refusal {
+    fn fmt(&self, f: &mut std::fmt::Formatter<'_>) -> std::fmt::Result {
+        write!(f, "refused {} at {}", self.number, self.place)
+    }
+}
+
+impl std::error::Error for Refusal {}
+
+/// What a log that passes has: its episodes, and its to words, each of which gives a link.
+#[derive(Clone, Copy, Debug, PartialEq, Eq)]
+pub struct Reading {
+    pub episodes: usize,
+    pub links: usize,
+}
+
+/// The outcome of a report call.
+#[derive(Clone, Copy, Debug, PartialEq, Eq)]
+pub enum Outcome {
+    /// The output begins with a report of this many words.
+    Report(usize),
+    /// Refusal 13: the output begins with a loop of this many episodes, one word more.
+    Loop(usize),
+    /// A refusal 1 to 12.
+    Refused(Refusal),
+}
+
+mod library {
+    #[repr(C)]
+    pub struct ReadAnswer {
+        pub number: u32,
+        pub place: usize,
+        pub episodes: usize,
+        pub links: usize,
+    }
+
+    #[repr(C)]
+    pub struct Answer {
+        pub number: u32,
+        pub value: usize,
+    }
+
+    #[repr(C)]
+    pub struct ThreadAnswer {
+        pub number: u32,
+        pub start: usize,
+        pub length: usize,
+    }
+
+    unsafe extern "C" {
+        pub fn zohapy_read(log: *const u32, log_words: usize) -> ReadAnswer;
+        pub fn zohapy_report(
+            log: *const u32,
+            log_words: usize,
+            out: *mut u32,
+            out_words: usize,
+            work: *mut u32,
+            work_words: usize,
+        ) -> Answer;
+        pub fn zohapy_fair_copy(
+            log: *const u32,
+            log_words: usize,
+            out: *mut u32,
+            out_words: usize,
+            work: *mut u32,
+            work_words: usize,
+        ) -> Answer;
+        pub fn zohapy_thread(report: *const u32, report_words: usize, i: usize) -> ThreadAnswer;
+    }
+}
+
+/// Reads a log: questions 1 to 10.
+pub fn read(log: &[u32]) -> Result<Reading, Refusal> {
+    // SAFETY: the pointer and the length are those of a slice.
+    let answer = unsafe { library::zohapy_read(log.as_ptr(), log.len()) };
+    match answer.number {
+        0 => Ok(Reading { episodes: answer.episodes, links: answer.links }),
+        number => Err(Refusal { number, place: answer.place }),
+    }
+}
+
+/// The report on a log, or a loop of it. For a report lend [`report_words`] output words and [`WORK_WORDS`] work words.
+pub fn report(log: &[u32], out: &mut [u32], work: &mut [u32]) -> Outcome {
+    // SAFETY: the pointers and the lengths are those of three slices, and no two of them share a word.
+    let answer =
+        unsafe { library::zohapy_report(log.as_ptr(), log.len(), out.as_mut_ptr(), out.len(), work.as_mut_ptr(), work.len()) };
+    match answer.number {
+        0 => Outcome::Report(answer.value),
+        13 => Outcome::Loop(answer.value),
+        number => Outcome::Refused(Refusal { number, place: answer.value }),
+    }
+}
+
+/// The fair copy of a log; the answer is its count of words. Lend [`copy_words`] output words and [`WORK_WORDS`] work words.
+pub fn fair_copy(log: &[u32], out: &mut [u32], work: &mut [u32]) -> Result<usize, Refusal> {
+    // SAFETY: the pointers and the lengths are those of three slices, and no two of them share a word.
+    let answer =
+        unsafe { library::zohapy_fair_copy(log.as_ptr(), log.len(), out.as_mut_ptr(), out.len(), work.as_mut_ptr(), work.len()) };
+    match answer.number {
+        0 => Ok(answer.value),
+        number => Err(Refusal { number, place: answer.value }),
+    }
+}
+
+/// The steps of thread `i` of a report, as that stretch of the report itself.
+pub fn thread(report: &[u32], i: usize) -> Result<&[u32], Refusal> {
+    // SAFETY: the pointer and the length are those of a slice.
+    let answer = unsafe { library::zohapy_thread(report.as_ptr(), report.len(), i) };
+    match answer.number {
+        0 => Ok(&report[answer.start..answer.start + answer.length]),
+        number => Err(Refusal { number, place: 0 }),
+    }
+}
