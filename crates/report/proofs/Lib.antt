@@ -1,13 +1,5 @@
--- What is promised of the calls, and its proof. Promises is the module to read first.
-pub mod Promises
+-- A report call by its questions, and what it leaves.
 pub mod Asked
 pub mod Reported
-pub mod Choices
-pub mod Said
-pub mod SmallLogs
 pub mod Answers
 pub mod Calls
-pub mod Copied
-pub mod CopyCalls
-pub mod ThreadCalls
-pub mod ThreadsLeft

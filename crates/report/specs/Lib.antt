@@ -1,5 +1,4 @@
--- What the calls give and leave, and which logs are accepted.
+-- What a report call gives and leaves, and which logs are accepted.
 pub mod Report
 pub mod Accepted
 pub mod Solving
-pub mod Copied

@@ -1,15 +1,12 @@
-// The library's front: the report on a log, its fair copy, and the steps of one thread of a report.
+// The report on a log.
 ghost use mathlib.Core.Path.{_≡_};
-ghost use Prim.Native.Nat.{_+_, _<_, _≤_};
+ghost use Prim.Native.Nat.{_<_, _≤_};
 ghost use lib.ListN.{length, replicate};
 ghost use Rattle.paths.specs.Graph.{Graph};
 ghost use Rattle.log.specs.Log.{service, graphOf, PassedLog};
-ghost use Rattle.writing.specs.Layout.{reportNeed, BeginsWith};
-ghost use Rattle.parsing.specs.Whole.{ThreadNumber, ThreadSteps, ThreadStretch};
-ghost use Rattle.copying.specs.FairCopy.{fairWords};
+ghost use Rattle.writing.specs.Layout.{reportNeed};
 ghost use Rattle.report.specs.Report.{workWords, Left};
 ghost use Rattle.report.specs.Solving.{Ready, Answered};
-ghost use Rattle.report.specs.Copied.{CopyLeft};
 use bits::USED;
 use bits::WAYS;
 use log::Ceilings;
@@ -84,96 +81,4 @@ pub fn report(log: &[u32], out: &mut [u32], work: &mut [u32]) -> Outcome
     ensures { λ r. ⌜ Left service (now (log .entry)) (now (out .entry)) (now (work .entry)) (now (out .exit)) (now (work .exit)) r ⌝ }
 {
     report_within(log::service_ceilings(), log, out, work)
-}
-
-// The outcome of a fair copy call: a copy with its count of words, or a refusal with its number and place. The words of a copy stay in the
-// lent output.
-pub enum CopyOutcome {
-    Copied(usize),
-    Refused(u32, usize),
-}
-
-// The fair copy of a log that passes, in work words of which none is left as it was.
-fn copy(log: &[u32], n: usize, out: &mut [u32], work: &mut [u32]) -> usize
-    requires { ⌜ PassedLog (now log) × (graphOf (now log) .n ≡ n)
-        × (length (fairWords (graphOf (now log))) ≤ length (now out)) × (length (now work) ≡ workWords) ⌝ }
-    ensures { λ r. ⌜ (r ≡ length (fairWords (graphOf (now (log .entry)))))
-        × BeginsWith (fairWords (graphOf (now (log .entry)))) (now (out .entry)) (now (out .exit))
-        × (now (work .exit) ≡ replicate (length (now (work .entry))) 0) ⌝ }
-{
-    let words = copying::write_copy(log, n, out, work);
-    bits::clear(work);
-    words
-}
-
-// The fair copy at a caller's ceilings.
-fn fair_copy_within(most: Ceilings, log: &[u32], out: &mut [u32], work: &mut [u32]) -> CopyOutcome
-    requires { ⌜ most .episodes ≤ 256 ⌝ }
-    ensures { λ r. ⌜ CopyLeft most (now (log .entry)) (now (out .entry)) (now (work .entry)) (now (out .exit)) (now (work .exit)) r ⌝ }
-{
-    match log::read_within(most, log) {
-        Reading::Refused(number, place) => CopyOutcome::Refused(number, place),
-        Reading::Passed(n, t) => {
-            let needed = 2 + 2 * t;
-            if out.len() < needed {
-                return CopyOutcome::Refused(11, needed);
-            }
-            let used = 16384;
-            if work.len() < used {
-                return CopyOutcome::Refused(12, used);
-            }
-            CopyOutcome::Copied(copy(log, n, out, &mut work[0..used]))
-        }
-    }
-}
-
-// The fair copy of a log, at the service's ceilings.
-pub fn fair_copy(log: &[u32], out: &mut [u32], work: &mut [u32]) -> CopyOutcome
-    ensures { λ r. ⌜ CopyLeft service (now (log .entry)) (now (out .entry)) (now (work .entry)) (now (out .exit)) (now (work .exit)) r ⌝ }
-{
-    fair_copy_within(log::service_ceilings(), log, out, work)
-}
-
-// The number that asking for thread `i` of a report's words gives: 0, 16 where they are no whole report, or 17 where it has no thread `i`.
-pub fn thread_number(report: &[u32], i: usize) -> u32
-    ensures { λ r. ⌜ ThreadNumber (now (report .entry)) i r ⌝ }
-{
-    let whole = parsing::is_whole(report);
-    let k = parsing::width(report);
-    if !whole {
-        return 16;
-    }
-    if k <= i {
-        return 17;
-    }
-    0
-}
-
-// Where the steps of thread `i` stand in the report's words: from `start` on and before `end`. The stretch is empty where `thread_number`
-// refuses.
-pub struct Stretch {
-    pub start: usize,
-    pub end: usize,
-}
-
-pub fn thread_stretch(report: &[u32], i: usize) -> Stretch
-    ensures { λ r. ⌜ ThreadStretch (now (report .entry)) i (r .start) (r .end) ⌝ }
-{
-    if thread_number(report, i) != 0 {
-        return Stretch { start: 0, end: 0 };
-    }
-    let at = parsing::thread_at(report, i);
-    let start = at + 1;
-    let end = start + log::number_of(report[at]);
-    Stretch { start, end }
-}
-
-// The steps of thread `i` as a part of the report's words, empty where `thread_number` refuses.
-pub fn thread_steps(report: &[u32], i: usize) -> &[u32]
-    ensures { λ r. ⌜ ThreadSteps (now (report .entry)) i (now r) ⌝ }
-{
-    let stretch = thread_stretch(report, i);
-    let start = stretch.start;
-    let end = stretch.end;
-    &report[start..end]
 }

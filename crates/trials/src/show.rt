@@ -1,9 +1,9 @@
 // What a call answered, as a line.
 ghost use Prim.Native.Nat.{_≤_};
 ghost use lib.ListN.{length};
+use fair_copy::CopyOutcome;
 use libc::STDOUT_FILENO;
 use log::Reading;
-use report::CopyOutcome;
 use report::Outcome;
 
 pub fn write(text: &[u8]) {
@@ -119,8 +119,8 @@ fn write_output(out: &[u32], count: usize) {
 
 // What asking for thread `i` gives: its episodes, or the refusal; and how many words the stretch has where it should be empty.
 fn write_thread(report: &[u32], i: usize) {
-    let number = report::thread_number(report, i);
-    let steps = report::thread_steps(report, i);
+    let number = threads::thread_number(report, i);
+    let steps = threads::thread_steps(report, i);
     if number == 0 {
         write(b"thread");
         write_numbers(steps);
@@ -175,7 +175,7 @@ fn ask(copies: bool, log: &[u32], out: &mut [u32], work: &mut [u32]) -> Outcome 
     if !copies {
         return report::report(log, out, work);
     }
-    match report::fair_copy(log, out, work) {
+    match fair_copy::fair_copy(log, out, work) {
         CopyOutcome::Copied(count) => Outcome::Report(count),
         CopyOutcome::Refused(number, place) => Outcome::Refused(number, place),
     }

@@ -6,9 +6,9 @@ use Rattle.log.specs.Answer.{Answer, given, refused}
 use Rattle.log.specs.Log.{service, questions}
 use Rattle.parsing.specs.Whole.{ThreadNumber, ThreadStretch}
 use Rattle.report.specs.Report.{Left, outcomeAnswer}
-use Rattle.report.specs.Copied.{CopyLeft, copyAnswer}
+use Rattle.fair_copy.specs.Copied.{CopyLeft, copyAnswer}
 use Rattle.report.specs.declared.Outcome.{Outcome}
-use Rattle.report.specs.declared.CopyOutcome.{CopyOutcome}
+use Rattle.fair_copy.specs.declared.CopyOutcome.{CopyOutcome}
 
 -- A reading in four numbers: 0, 0, n and the count of to words, or a refusal's number and place and twice 0.
 abbrev pub readNumbers : Answer (ℕ × ℕ) → ℕ × ℕ × ℕ × ℕ

@@ -2,8 +2,8 @@
 ghost use mathlib.Core.Path.{_≡_};
 ghost use Rattle.log.specs.Log.{service, questions};
 ghost use Rattle.zohapy.specs.Exported.{readNumbers, Reports, Copies, Thread};
+use fair_copy::CopyOutcome;
 use log::Reading;
-use report::CopyOutcome;
 use report::Outcome;
 
 // A reading: number 0 with n and the count of to words, or a refusal's number and place. What is not given is 0.
@@ -77,7 +77,7 @@ pub extern "C" fn zohapy_report(log: &[u32], out: &mut [u32], work: &mut [u32]) 
 pub extern "C" fn zohapy_fair_copy(log: &[u32], out: &mut [u32], work: &mut [u32]) -> Answer
     ensures { λ r. ⌜ Copies (now (log .entry)) (now (out .entry)) (now (work .entry)) (now (out .exit)) (now (work .exit)) (r .number) (r .value) ⌝ }
 {
-    match report::fair_copy(log, out, work) {
+    match fair_copy::fair_copy(log, out, work) {
         CopyOutcome::Copied(words) => Answer {
             number: 0,
             value: words,
@@ -94,8 +94,8 @@ pub extern "C" fn zohapy_fair_copy(log: &[u32], out: &mut [u32], work: &mut [u32
 pub extern "C" fn zohapy_thread(report: &[u32], i: usize) -> ThreadAnswer
     ensures { λ r. ⌜ Thread (now (report .entry)) i (r .number) (r .start) (r .length) ⌝ }
 {
-    let number = report::thread_number(report, i);
-    let stretch = report::thread_stretch(report, i);
+    let number = threads::thread_number(report, i);
+    let stretch = threads::thread_stretch(report, i);
     ThreadAnswer {
         number,
         start: stretch.start,

@@ -1,7 +1,7 @@
 -- `zohapy::zohapy_fair_copy` meets its contract: the call leaves what the fair copy left, and says it in numbers. Assumes nothing.
 use mathlib.Core.Path.{ap}
-use Rattle.report.specs.Copied.{copyAnswer}
-use Rattle.report.specs.declared.CopyOutcome.{CopyOutcome}
+use Rattle.fair_copy.specs.Copied.{copyAnswer}
+use Rattle.fair_copy.specs.declared.CopyOutcome.{CopyOutcome}
 use Rattle.zohapy.specs.Exported.{numbers}
 use borrow.Author.Needs.{needs}
 use Rattle.zohapy.proofs.zohapy_fair_copy.Statement.{statement}

@@ -20,17 +20,17 @@ use Rattle.parsing.specs.Whole.{IsReport, Whole, ThreadNumber, ThreadSteps}
 use Rattle.parsing.proofs.Wholes.{report-read}
 use Rattle.copying.specs.FairCopy.{fairWords, fairNeed}
 use Rattle.copying.proofs.FairCopies as fair
 use Rattle.report.specs.Report.{outcomeAnswer, asked, cleared, Paired, Reported, LoopShown, Passes, Left}
 use Rattle.report.specs.Accepted.{Accepted, LentEnough}
 use Rattle.report.specs.declared.Outcome.{Outcome}
-use Rattle.report.specs.Copied.{copyAnswer, copyAsked, CopyLeft}
-use Rattle.report.specs.declared.CopyOutcome.{CopyOutcome}
-use Rattle.report.proofs.Copied as copies
-use Rattle.report.proofs.ThreadsLeft as threads
-use Rattle.report.proofs.SmallLogs as small
-use Rattle.report.proofs.SmallLogs.{Right, rows}
+use Rattle.fair_copy.specs.Copied.{copyAnswer, copyAsked, CopyLeft}
+use Rattle.fair_copy.specs.declared.CopyOutcome.{CopyOutcome}
+use Rattle.fair_copy.proofs.Copied as copies
+use Rattle.promises.proofs.ThreadsLeft as threads
+use Rattle.promises.proofs.SmallLogs as small
+use Rattle.promises.proofs.SmallLogs.{Right, rows}
 use Rattle.report.proofs.Reported as calls
 use Rattle.report.proofs.Reported.{accepted-ends, accepted-acyclic, accepted-passes, passes-enough}
 
 -- 1. Of every accepted log.
 module _ (m : Ceilings) (l : List ℕ) (accepted : Accepted m l) where

@@ -5,9 +5,9 @@ use borrow.Author.Needs.{needs}
 use denote.Ref.{now}
 use Rattle.parsing.specs.Whole.{HasThread}
 use Rattle.parsing.proofs.Wholes.{Room, thread-room}
-use Rattle.report.proofs.ThreadCalls.{no-stretch, its-stretch}
-use Rattle.report.proofs.thread_stretch.Statement.{statement}
-use Rattle.report.proofs.thread_stretch.Tie as tie
+use Rattle.threads.proofs.ThreadCalls.{no-stretch, its-stretch}
+use Rattle.threads.proofs.thread_stretch.Statement.{statement}
+use Rattle.threads.proofs.thread_stretch.Tie as tie
 
 thread-number-requires : tie.Need-thread-number-requires
 thread-number-requires c κs = search needs

@@ -3,8 +3,8 @@ use mathlib.Core.Path.{_≡_}
 use native.Mathlib.Omega.{arith}
 use lib.ListN.{length}
 use borrow.Author.Needs.{needs}
-use Rattle.report.proofs.copy.Statement.{statement}
-use Rattle.report.proofs.copy.Tie as tie
+use Rattle.fair_copy.proofs.copy.Statement.{statement}
+use Rattle.fair_copy.proofs.copy.Tie as tie
 
 write-copy-requires : tie.Need-write-copy-requires
 write-copy-requires c κs = search needs

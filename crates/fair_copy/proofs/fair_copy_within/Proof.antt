@@ -9,11 +9,11 @@ use Rattle.log.specs.Answer.{given}
 use Rattle.log.specs.Log.{questions}
 use Rattle.log.proofs.Laws.{few-episodes, graph-episodes, words-small}
 use Rattle.copying.proofs.FairCopies.{copy-fits}
 use Rattle.report.specs.Report.{workWords}
 use Rattle.report.proofs.Calls.{told, work-cleared}
-use Rattle.report.proofs.CopyCalls.{copy-denied, copy-short-output, copy-short-work, copy-left}
-use Rattle.report.proofs.fair_copy_within.Statement.{statement}
-use Rattle.report.proofs.fair_copy_within.Tie as tie
+use Rattle.fair_copy.proofs.CopyCalls.{copy-denied, copy-short-output, copy-short-work, copy-left}
+use Rattle.fair_copy.proofs.fair_copy_within.Statement.{statement}
+use Rattle.fair_copy.proofs.fair_copy_within.Tie as tie
 
 read-within-requires : tie.Need-read-within-requires
 read-within-requires c κs = search needs

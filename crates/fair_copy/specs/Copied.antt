@@ -8,9 +8,9 @@ use Rattle.log.specs.Log.{graphOf}
 use Rattle.log.specs.declared.Ceilings.{Ceilings}
 use Rattle.writing.specs.Layout.{BeginsWith}
 use Rattle.copying.specs.FairCopy.{fairWords, fairNeed}
 use Rattle.report.specs.Report.{asked, cleared}
-use Rattle.report.specs.declared.CopyOutcome.{CopyOutcome}
-use Rattle.report.specs.declared.CopyOutcome.the-variants.{Copied, Refused}
+use Rattle.fair_copy.specs.declared.CopyOutcome.{CopyOutcome}
+use Rattle.fair_copy.specs.declared.CopyOutcome.the-variants.{Copied, Refused}
 
 -- The outcome of a fair copy call in numbers: the count of the copy's words, or a refusal.
 abbrev pub copyAnswer : CopyOutcome → Answer ℕ

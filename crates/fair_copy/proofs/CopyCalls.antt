@@ -9,11 +9,11 @@ use Rattle.log.specs.declared.Ceilings.{Ceilings}
 use Rattle.log.proofs.Laws.{graph-count}
 use Rattle.writing.specs.Layout.{BeginsWith}
 use Rattle.copying.specs.FairCopy.{fairWords, fairNeed}
 use Rattle.report.specs.Report.{workWords, cleared}
-use Rattle.report.specs.Copied.{CopyLeft}
-use Rattle.report.specs.declared.CopyOutcome.the-variants.{Copied, Refused}
+use Rattle.fair_copy.specs.Copied.{CopyLeft}
+use Rattle.fair_copy.specs.declared.CopyOutcome.the-variants.{Copied, Refused}
 use Rattle.report.proofs.Asked.{asked-denied, asked-short-output, asked-short-work, asked-passes}
 use Rattle.report.proofs.Reported.{read-graph}
 
 -- refused by 1 to 10
 pub copy-denied : (m : Ceilings) (l o w : List ℕ) (q p : ℕ) → questions m l ≡ refused q p → CopyLeft m l o w o w (Refused q p)

@@ -29,13 +29,13 @@ use Rattle.log.specs.Answer.{given, refused}
 use Rattle.log.specs.Log.{linksFrom, questions, graphOf}
 use Rattle.log.specs.declared.Ceilings.{Ceilings}
 use Rattle.writing.specs.Layout.{threadWords, threadsWords, ended, reportWords, loopWords, reportNeed, apartOf, threadsOf}
 use Rattle.report.specs.Report.{outcomeAnswer, asked, cleared, Reported, Passes, Left}
 use Rattle.report.specs.Accepted.{LentEnough}
 use Rattle.report.specs.declared.Outcome.{Outcome}
 use Rattle.writing.proofs.Layouts.{report-head}
 use Rattle.report.proofs.Asked.{asked-read}
 use Rattle.report.proofs.Reported as calls
-use Rattle.report.proofs.Choices.{covers, covers-all, loops, loops-all}
+use Rattle.promises.proofs.Choices.{covers, covers-all, loops, loops-all}
 
 -- What the scope says of a small log.
 pub data Said : Type 0 where

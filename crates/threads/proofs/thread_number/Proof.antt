@@ -4,9 +4,9 @@ use native.Mathlib.Omega.{arith}
 use borrow.Author.Needs.{needs}
 use borrow.Author.Tests.{not-true, not-false}
 use denote.Ref.{now}
-use Rattle.report.proofs.ThreadCalls.{no-report, no-thread, a-thread}
-use Rattle.report.proofs.thread_number.Statement.{statement}
-use Rattle.report.proofs.thread_number.Tie as tie
+use Rattle.threads.proofs.ThreadCalls.{no-report, no-thread, a-thread}
+use Rattle.threads.proofs.thread_number.Statement.{statement}
+use Rattle.threads.proofs.thread_number.Tie as tie
 
 is-whole-requires : tie.Need-is-whole-requires
 is-whole-requires c κs = search needs

@@ -8,12 +8,12 @@ use Rattle.log.specs.Answer.{Answer, given, refused}
 use Rattle.log.specs.Log.{questions, graphOf}
 use Rattle.log.specs.declared.Ceilings.{Ceilings}
 use Rattle.copying.specs.FairCopy.{fairWords, fairNeed}
 use Rattle.report.specs.Report.{cleared}
-use Rattle.report.specs.Copied.{copyAnswer, copyAsked, CopyLeft}
-use Rattle.report.specs.declared.CopyOutcome.{CopyOutcome}
-use Rattle.report.specs.declared.CopyOutcome.the-variants.{Copied, Refused}
+use Rattle.fair_copy.specs.Copied.{copyAnswer, copyAsked, CopyLeft}
+use Rattle.fair_copy.specs.declared.CopyOutcome.{CopyOutcome}
+use Rattle.fair_copy.specs.declared.CopyOutcome.the-variants.{Copied, Refused}
 use Rattle.report.proofs.Asked.{asked-given}
 use Rattle.report.proofs.Reported.{not-both}
 
 -- What a call with the outcome of a copy leaves: `c` is the count of its words.
 pub record CopyGiven (m : Ceilings) (l o w o′ w′ : List ℕ) (c : ℕ) : Type 0 where

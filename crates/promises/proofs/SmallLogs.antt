@@ -8,10 +8,10 @@ use Rattle.order.specs.Order.{All}
 use Rattle.paths.proofs.Checker.{both, each, each-right}
 use Rattle.log.specs.Answer.{Answer, given, refused}
 use Rattle.log.specs.Log.{service, onwards, groupWord, endWord, questions}
 use Rattle.report.specs.Report.{Left}
 use Rattle.report.specs.declared.Outcome.{Outcome}
 use Rattle.report.proofs.Reported.{read-graph}
-use Rattle.report.proofs.Said.{Said, report, parts, loop, short, Shown, saidTest, said-right}
+use Rattle.promises.proofs.Said.{Said, report, parts, loop, short, Shown, saidTest, said-right}
 
 -- a log's words, its episodes and its link count, and what is said of it
 pub record Row : Type 0 where

@@ -14,8 +14,8 @@ use Rattle.writing.proofs.Layouts.{numbers-of}
 use Rattle.writing.proofs.Reporting.{report-few}
 use Rattle.parsing.specs.Whole.{IsReport, Whole, ThreadNumber, ThreadSteps}
 use Rattle.parsing.proofs.ThreadParse.{fit-at}
 use Rattle.report.proofs.Reported.{ReportLeft, apart-few, apart-small, threads-small, reported-fits, report-accepted}
-use Rattle.report.proofs.ThreadCalls.{count-of, has-below}
+use Rattle.threads.proofs.ThreadCalls.{count-of, has-below}
 
 -- what the two calls say of thread `i` of the words `ws`
 module _ (ws : List ℕ) (i r : ℕ) (s : List ℕ) (asked : ThreadNumber ws i r) (steps : ThreadSteps ws i s) where

@@ -2,8 +2,8 @@
 -- Assumes nothing.
 use native.Mathlib.Omega.{arith}
 use borrow.Author.Needs.{needs}
-use Rattle.report.proofs.fair_copy.Statement.{statement}
-use Rattle.report.proofs.fair_copy.Tie as tie
+use Rattle.fair_copy.proofs.fair_copy.Statement.{statement}
+use Rattle.fair_copy.proofs.fair_copy.Tie as tie
 
 service-ceilings-requires : tie.Need-service-ceilings-requires
 service-ceilings-requires c κs = search needs

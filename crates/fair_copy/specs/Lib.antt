@@ -1,0 +1,2 @@
+-- What a fair copy call gives and leaves.
+pub mod Copied

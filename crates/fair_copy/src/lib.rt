@@ -1,0 +1,59 @@
+// The fair copy of a log.
+ghost use mathlib.Core.Path.{_≡_};
+ghost use Prim.Native.Nat.{_≤_};
+ghost use lib.ListN.{length, replicate};
+ghost use Rattle.log.specs.Log.{service, graphOf, PassedLog};
+ghost use Rattle.writing.specs.Layout.{BeginsWith};
+ghost use Rattle.copying.specs.FairCopy.{fairWords};
+ghost use Rattle.report.specs.Report.{workWords};
+ghost use Rattle.fair_copy.specs.Copied.{CopyLeft};
+use log::Ceilings;
+use log::Reading;
+
+// The outcome of a fair copy call: a copy with its count of words, or a refusal with its number and place. The words of a copy stay in the
+// lent output.
+pub enum CopyOutcome {
+    Copied(usize),
+    Refused(u32, usize),
+}
+
+// The fair copy of a log that passes, in work words of which none is left as it was.
+fn copy(log: &[u32], n: usize, out: &mut [u32], work: &mut [u32]) -> usize
+    requires { ⌜ PassedLog (now log) × (graphOf (now log) .n ≡ n)
+        × (length (fairWords (graphOf (now log))) ≤ length (now out)) × (length (now work) ≡ workWords) ⌝ }
+    ensures { λ r. ⌜ (r ≡ length (fairWords (graphOf (now (log .entry)))))
+        × BeginsWith (fairWords (graphOf (now (log .entry)))) (now (out .entry)) (now (out .exit))
+        × (now (work .exit) ≡ replicate (length (now (work .entry))) 0) ⌝ }
+{
+    let words = copying::write_copy(log, n, out, work);
+    bits::clear(work);
+    words
+}
+
+// The fair copy at a caller's ceilings.
+fn fair_copy_within(most: Ceilings, log: &[u32], out: &mut [u32], work: &mut [u32]) -> CopyOutcome
+    requires { ⌜ most .episodes ≤ 256 ⌝ }
+    ensures { λ r. ⌜ CopyLeft most (now (log .entry)) (now (out .entry)) (now (work .entry)) (now (out .exit)) (now (work .exit)) r ⌝ }
+{
+    match log::read_within(most, log) {
+        Reading::Refused(number, place) => CopyOutcome::Refused(number, place),
+        Reading::Passed(n, t) => {
+            let needed = 2 + 2 * t;
+            if out.len() < needed {
+                return CopyOutcome::Refused(11, needed);
+            }
+            let used = 16384;
+            if work.len() < used {
+                return CopyOutcome::Refused(12, used);
+            }
+            CopyOutcome::Copied(copy(log, n, out, &mut work[0..used]))
+        }
+    }
+}
+
+// The fair copy of a log, at the service's ceilings.
+pub fn fair_copy(log: &[u32], out: &mut [u32], work: &mut [u32]) -> CopyOutcome
+    ensures { λ r. ⌜ CopyLeft service (now (log .entry)) (now (out .entry)) (now (work .entry)) (now (out .exit)) (now (work .exit)) r ⌝ }
+{
+    fair_copy_within(log::service_ceilings(), log, out, work)
+}

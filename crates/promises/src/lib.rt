@@ -1,0 +1,1 @@
+// No code: what is promised of the services is proved from their contracts alone.

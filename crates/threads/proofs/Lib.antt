@@ -1,0 +1,2 @@
+-- What asking for a thread gives.
+pub mod ThreadCalls
