@@ -1,8 +1,8 @@
 /* The sleeper report: the four services of the proved library, for C. Link build/libzohapy.a.
  *
- * A log is an array of 32-bit words; a word's top 4 bits are its kind and its low 28 bits its number. Every call ends with an answer or
- * one numbered refusal, on any content and length. A pointer must be aligned and not null, also where the length is 0, and no two arrays
- * may share a word. Nothing is allocated, and nothing is kept between calls. */
+ * A log is an array of 32-bit words; a word's top 4 bits are its kind and its low 28 bits its number. Every call ends with an
+ * answer or one numbered refusal, on any content and length. A pointer must be aligned and not null, also where the length is 0,
+ * and no two arrays may share a word. Nothing is allocated, and nothing is kept between calls. */
 #ifndef ZOHAPY_H
 #define ZOHAPY_H
 
@@ -41,14 +41,17 @@ typedef struct {
 /* Reads a log: questions 1 to 10. */
 zohapy_read_answer zohapy_read(const uint32_t *log, size_t log_words);
 
-/* The report on a log: a smallest path cover and the right-most maximum antichain, of the same size. Refusals 1 to 12 change no word.
- * After 0 the output begins with the report, after 13 with a loop of the log: a word of kind 8 with its length, which is also the place,
- * and its episodes. The output is unchanged behind them, the first 16,384 work words are zero, and the others unchanged. */
-zohapy_answer zohapy_report(const uint32_t *log, size_t log_words, uint32_t *out, size_t out_words, uint32_t *work, size_t work_words);
+/* The report on a log: a smallest path cover and the right-most maximum antichain, of the same size. Refusals 1 to 12 change no
+ * word. After 0 the output begins with the report, after 13 with a loop of the log: a word of kind 8 with its length, which is
+ * also the place, and its episodes. The output is unchanged behind them, the first 16,384 work words are zero, and the others
+ * unchanged. */
+zohapy_answer zohapy_report(const uint32_t *log, size_t log_words, uint32_t *out, size_t out_words, uint32_t *work,
+                            size_t work_words);
 
-/* The fair copy of a log: one form for all logs with the same n and the same set of links. Refusals 1 to 12 change no word. After 0 the
- * output begins with the copy; the rest of both buffers is as after a report. */
-zohapy_answer zohapy_fair_copy(const uint32_t *log, size_t log_words, uint32_t *out, size_t out_words, uint32_t *work, size_t work_words);
+/* The fair copy of a log: one form for all logs with the same n and the same set of links. Refusals 1 to 12 change no word. After
+ * 0 the output begins with the copy; the rest of both buffers is as after a report. */
+zohapy_answer zohapy_fair_copy(const uint32_t *log, size_t log_words, uint32_t *out, size_t out_words, uint32_t *work,
+                               size_t work_words);
 
 /* The steps of thread i of a report, counted from 0: report[start] to report[start + length - 1], each a word of kind 7. */
 zohapy_thread_answer zohapy_thread(const uint32_t *report, size_t report_words, size_t i);

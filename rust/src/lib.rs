@@ -1,11 +1,31 @@
 //! The sleeper report for Rust programs: the four services of the proved library, on lent buffers.
 //!
-//! A log is a list of 32-bit words; a word's top 4 bits are its kind and its low 28 bits its number. Each call ends, on any log and any
-//! buffers, with an answer or one numbered refusal, and what it leaves in every word of the buffers is fixed:
+//! A log is a list of 32-bit words; a word's top 4 bits are its kind and its low 28 bits its number. Each call ends, on any log
+//! and any buffers, with an answer or one numbered refusal, and what it leaves in every word of the buffers is fixed:
 //!
 //! - after a refusal 1 to 12 no buffer has changed;
-//! - otherwise the output begins with the report, the loop or the copy and is unchanged behind it, and the first [`WORK_WORDS`] work words
-//!   are zero, the others unchanged.
+//! - otherwise the output begins with the report, the loop or the copy and is unchanged behind it, and the first [`WORK_WORDS`]
+//!   work words are zero, the others unchanged.
+//!
+//! [`Report::of`] lends buffers of its own and gives the report as lists of episodes. [`words_from_bytes`] takes a log's bytes.
+//!
+//! ```
+//! use zohapy::Report;
+//!
+//! let log = [0x1000_0005, 0x2000_0000, 0x3000_0001, 0x2000_0002, 0x3000_0003, 0xF000_0002]; // 5 episodes, links 0-1 and 2-3
+//! let report = Report::of(&log)?;
+//! assert_eq!(report.width, 3);
+//! assert_eq!(report.apart, [1, 3, 4]);
+//! assert_eq!(report.threads, [vec![0, 1], vec![2, 3], vec![4]]);
+//! # Ok::<(), zohapy::Failure>(())
+//! ```
+
+mod owned;
+
+pub use owned::{Failure, Report};
+
+/// The most bytes that a log has: those of 4,096 groups of one to word each, with head and end.
+pub const LOG_BYTES: usize = 32_776;
 
 /// The work words that a report or a fair copy needs.
 pub const WORK_WORDS: usize = 16_384;
@@ -33,7 +53,10 @@ pub const fn number(word: u32) -> u32 {
 /// A refusal: its number and its place.
 #[derive(Clone, Copy, Debug, PartialEq, Eq)]
 pub struct Refusal {
+    /// The question that was answered no.
     pub number: u32,
+    /// The place, in words from 0. For 11 and 12 it is the words needed, for 13 the loop's length, for 14 [`LOG_BYTES`], and
+    /// for 15 the byte count.
     pub place: usize,
 }
 
@@ -48,7 +71,9 @@ impl std::error::Error for Refusal {}
 /// What a log that passes has: its episodes, and its to words, each of which gives a link.
 #[derive(Clone, Copy, Debug, PartialEq, Eq)]
 pub struct Reading {
+    /// n; the episodes are 0 to n - 1.
     pub episodes: usize,
+    /// The count of to words.
     pub links: usize,
 }
 
@@ -85,6 +110,7 @@ mod library {
         pub length: usize,
     }
 
+    // SAFETY: these are the functions of include/zohapy.h, with the same arguments and the same structures.
     unsafe extern "C" {
         pub fn zohapy_read(log: *const u32, log_words: usize) -> ReadAnswer;
         pub fn zohapy_report(
@@ -109,7 +135,7 @@ mod library {
 
 /// Reads a log: questions 1 to 10.
 pub fn read(log: &[u32]) -> Result<Reading, Refusal> {
-    // SAFETY: the pointer and the length are those of a slice.
+    // SAFETY: the pointer and the length are those of a slice, and the call reads only its words.
     let answer = unsafe { library::zohapy_read(log.as_ptr(), log.len()) };
     match answer.number {
         0 => Ok(Reading { episodes: answer.episodes, links: answer.links }),
@@ -119,7 +145,7 @@ pub fn read(log: &[u32]) -> Result<Reading, Refusal> {
 
 /// The report on a log, or a loop of it. For a report lend [`report_words`] output words and [`WORK_WORDS`] work words.
 pub fn report(log: &[u32], out: &mut [u32], work: &mut [u32]) -> Outcome {
-    // SAFETY: the pointers and the lengths are those of three slices, and no two of them share a word.
+    // SAFETY: the pointers and the lengths are those of three slices, no two of which share a word; the call stays within them.
     let answer =
         unsafe { library::zohapy_report(log.as_ptr(), log.len(), out.as_mut_ptr(), out.len(), work.as_mut_ptr(), work.len()) };
     match answer.number {
@@ -131,7 +157,7 @@ pub fn report(log: &[u32], out: &mut [u32], work: &mut [u32]) -> Outcome {
 
 /// The fair copy of a log; the answer is its count of words. Lend [`copy_words`] output words and [`WORK_WORDS`] work words.
 pub fn fair_copy(log: &[u32], out: &mut [u32], work: &mut [u32]) -> Result<usize, Refusal> {
-    // SAFETY: the pointers and the lengths are those of three slices, and no two of them share a word.
+    // SAFETY: the pointers and the lengths are those of three slices, no two of which share a word; the call stays within them.
     let answer =
         unsafe { library::zohapy_fair_copy(log.as_ptr(), log.len(), out.as_mut_ptr(), out.len(), work.as_mut_ptr(), work.len()) };
     match answer.number {
@@ -142,10 +168,28 @@ pub fn fair_copy(log: &[u32], out: &mut [u32], work: &mut [u32]) -> Result<usize
 
 /// The steps of thread `i` of a report, as that stretch of the report itself.
 pub fn thread(report: &[u32], i: usize) -> Result<&[u32], Refusal> {
-    // SAFETY: the pointer and the length are those of a slice.
+    // SAFETY: the pointer and the length are those of a slice, and the call reads only its words.
     let answer = unsafe { library::zohapy_thread(report.as_ptr(), report.len(), i) };
     match answer.number {
         0 => Ok(&report[answer.start..answer.start + answer.length]),
         number => Err(Refusal { number, place: 0 }),
     }
+}
+
+/// The words of a log's bytes, four to a word, lowest byte first. More than [`LOG_BYTES`] bytes are refused by 14, then any count
+/// that is not a multiple of four by 15.
+pub fn words_from_bytes(bytes: &[u8]) -> Result<Vec<u32>, Refusal> {
+    if bytes.len() > LOG_BYTES {
+        return Err(Refusal { number: 14, place: LOG_BYTES });
+    }
+    let (words, rest) = bytes.as_chunks::<4>();
+    if !rest.is_empty() {
+        return Err(Refusal { number: 15, place: bytes.len() });
+    }
+    Ok(words.iter().map(|word| u32::from_le_bytes(*word)).collect())
+}
+
+/// The bytes of words, four to a word, lowest byte first.
+pub fn bytes_from_words(words: &[u32]) -> Vec<u8> {
+    words.iter().flat_map(|word| word.to_le_bytes()).collect()
 }

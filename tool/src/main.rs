@@ -1,1 +1,167 @@
-fn main() {}
+//! Text forms and pictures of logs.
+
+mod log;
+mod picture;
+#[cfg(test)]
+mod random;
+
+use std::ffi::OsString;
+use std::fs::File;
+use std::io::{Read, Write};
+use std::process::ExitCode;
+
+use log::Log;
+use zohapy::{Failure, LOG_BYTES, Refusal, Report, bytes_from_words, words_from_bytes};
+
+const USAGE: &str = "\
+usage: zohapy-tool COMMAND [FILE]
+
+  bytes     from the text form of a log, its bytes
+  text      from the bytes of a log, its text form
+  picture   from the bytes of a log, an SVG picture of its report, or of its loop
+  --help    this text
+
+Without FILE, or where it is -, standard input is read. The answer goes to standard output.
+
+The text form has a line `episodes N`, then a line `A-B` for each link. Blank lines and lines that start with # are passed over.
+`bytes` does not ask whether the log would be accepted. `text` asks questions 1 to 10, and `picture` also shows a loop.
+
+exit status: 0; 1 where the log is refused, with `refused N at P` on standard error; 2 on any other trouble.
+";
+
+/// Why there is no answer: the exit status and the message.
+#[derive(Debug, PartialEq, Eq)]
+struct Trouble {
+    status: u8,
+    message: String,
+}
+
+impl From<Refusal> for Trouble {
+    fn from(refusal: Refusal) -> Trouble {
+        Trouble { status: 1, message: refusal.to_string() }
+    }
+}
+
+/// Any trouble but a refusal.
+fn other(message: impl ToString) -> Trouble {
+    Trouble { status: 2, message: message.to_string() }
+}
+
+fn main() -> ExitCode {
+    let arguments: Vec<OsString> = std::env::args_os().skip(1).collect();
+    let answer = run(&arguments);
+    match answer.and_then(|bytes| std::io::stdout().write_all(&bytes).map_err(other)) {
+        Ok(()) => ExitCode::SUCCESS,
+        Err(trouble) => {
+            eprintln!("{}", trouble.message.trim_end());
+            ExitCode::from(trouble.status)
+        }
+    }
+}
+
+/// What the command in the arguments writes to standard output.
+fn run(arguments: &[OsString]) -> Result<Vec<u8>, Trouble> {
+    let (command, file) = match arguments {
+        [command] => (command, None),
+        [command, file] => (command, Some(file).filter(|file| *file != "-")),
+        _ => return Err(other(USAGE)),
+    };
+    let command = match command.to_str() {
+        Some("--help" | "-h") => return Ok(USAGE.into()),
+        Some("bytes") => bytes,
+        Some("text") => text,
+        Some("picture") => picture,
+        _ => return Err(other(USAGE)),
+    };
+    match file {
+        None => command(&mut std::io::stdin()),
+        Some(file) => {
+            let mut opened = File::open(file).map_err(|error| other(format!("{}: {error}", file.display())))?;
+            command(&mut opened)
+        }
+    }
+}
+
+/// The bytes of a log from its text form.
+fn bytes(input: &mut dyn Read) -> Result<Vec<u8>, Trouble> {
+    let mut text = Vec::new();
+    input.read_to_end(&mut text).map_err(other)?;
+    let log = Log::from_text(&String::from_utf8_lossy(&text)).map_err(other)?;
+    Ok(bytes_from_words(&log.words()))
+}
+
+/// The text form of a log from its bytes.
+fn text(input: &mut dyn Read) -> Result<Vec<u8>, Trouble> {
+    let log = Log::from_words(&words(input)?)?;
+    Ok(log.to_string().into_bytes())
+}
+
+/// A picture of a log's report, or of its loop, from its bytes.
+fn picture(input: &mut dyn Read) -> Result<Vec<u8>, Trouble> {
+    let words = words(input)?;
+    let log = Log::from_words(&words)?;
+    match Report::of(&words) {
+        Ok(report) => Ok(picture::of_report(&log, &report).into_bytes()),
+        Err(Failure::Loop(episodes)) => Ok(picture::of_loop(&log, &episodes).into_bytes()),
+        Err(Failure::Refused(refusal)) => Err(refusal.into()),
+    }
+}
+
+/// The words of the input's bytes. No more bytes are read than are needed to refuse them.
+fn words(input: &mut dyn Read) -> Result<Vec<u32>, Trouble> {
+    let mut bytes = Vec::new();
+    input.take(LOG_BYTES as u64 + 1).read_to_end(&mut bytes).map_err(other)?;
+    Ok(words_from_bytes(&bytes)?)
+}
+
+#[cfg(test)]
+mod tests {
+    use super::*;
+
+    const WHOLE: [u32; 6] = [0x1000_0005, 0x2000_0000, 0x3000_0001, 0x2000_0002, 0x3000_0003, 0xF000_0002];
+
+    fn refused(number: u32, place: usize) -> Result<Vec<u8>, Trouble> {
+        Err(Trouble { status: 1, message: format!("refused {number} at {place}") })
+    }
+
+    #[test]
+    fn text_to_bytes_to_text() {
+        let given = &b"episodes 5\n0-1\n2-3\n"[..];
+        let made = bytes(&mut { given }).expect("a text form");
+        assert_eq!(made, bytes_from_words(&WHOLE));
+        assert_eq!(text(&mut &made[..]), Ok(given.to_vec()));
+    }
+
+    #[test]
+    fn a_wrong_text_has_status_2() {
+        let trouble = bytes(&mut &b"episodes 5\n0-\xFF\n"[..]).expect_err("the second line is no link");
+        assert_eq!((trouble.status, trouble.message.starts_with("line 2: expected a link")), (2, true));
+    }
+
+    #[test]
+    fn a_refused_log_has_status_1() {
+        let made = bytes(&mut &b"episodes 5\n0-1\n2-7\n"[..]).expect("a text form");
+        assert_eq!(text(&mut &made[..]), refused(7, 4));
+        assert_eq!(picture(&mut &made[..]), refused(7, 4));
+        assert_eq!(text(&mut &made[..7]), refused(15, 7));
+        assert_eq!(picture(&mut std::io::repeat(0)), refused(14, 32776));
+    }
+
+    #[test]
+    fn a_loop_has_a_text_form_and_a_picture() {
+        let given = &b"episodes 2\n0-1\n1-0\n"[..];
+        let made = bytes(&mut { given }).expect("a text form");
+        assert_eq!(text(&mut &made[..]), Ok(given.to_vec()));
+        assert!(picture(&mut &made[..]).is_ok_and(|svg| svg.starts_with(b"<svg ")));
+    }
+
+    #[test]
+    fn arguments() {
+        let run = |arguments: &[&str]| run(&arguments.iter().map(OsString::from).collect::<Vec<_>>());
+        assert_eq!(run(&["--help"]), Ok(USAGE.into()));
+        for wrong in [&[][..], &["sing"], &["text", "a", "b"]] {
+            assert_eq!(run(wrong), Err(other(USAGE)));
+        }
+        assert_eq!(run(&["text", "no such file"]).map_err(|trouble| trouble.status), Err(2));
+    }
+}

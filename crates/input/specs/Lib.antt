@@ -1,0 +1,2 @@
+-- The bytes of a log as words.
+pub mod Input

@@ -1,0 +1,102 @@
+/* The four services from C, on a log of 5 episodes with the links 0-1 and 2-3, and their refusals. Prints what
+ * examples/expected.txt holds; exits with 1 where a refusal has another number than is meant here. */
+#include <inttypes.h>
+#include <stdio.h>
+
+#include "zohapy.h"
+
+#define WORDS(array) (sizeof(array) / sizeof((array)[0]))
+
+static const uint32_t whole[] = {0x10000005, 0x20000000, 0x30000001, 0x20000002, 0x30000003, 0xF0000002};
+
+/* One log for each refusal of a reading but 8, which takes 4,097 to words. */
+static const struct {
+    uint32_t number;
+    size_t count;
+    uint32_t words[4];
+} refused[] = {
+    {1, 1, {0x10000005}},                                     /* fewer than two words */
+    {2, 2, {0x20000005, 0xF0000000}},                         /* no head */
+    {3, 2, {0x100000C9, 0xF0000000}},                         /* 201 episodes */
+    {4, 3, {0x10000005, 0x70000000, 0xF0000000}},             /* neither a from word nor a to word */
+    {5, 3, {0x10000005, 0x30000001, 0xF0000001}},             /* a to word before any from word */
+    {6, 3, {0x10000005, 0x20000001, 0xF0000000}},             /* a from word without a to word */
+    {7, 4, {0x10000005, 0x20000000, 0x30000005, 0xF0000001}}, /* episode 5 is not below 5 */
+    {9, 4, {0x10000005, 0x20000000, 0x30000001, 0x30000002}}, /* no end */
+    {10, 4, {0x10000005, 0x20000000, 0x30000001, 0xF0000000}}, /* the end says 0 and there is 1 */
+};
+
+static const uint32_t loop[] = {0x10000002, 0x20000000, 0x30000001, 0x20000001, 0x30000000, 0xF0000002};
+
+static uint32_t out[ZOHAPY_REPORT_WORDS(5)];
+static uint32_t work[ZOHAPY_WORK_WORDS];
+static int failed = 0;
+
+/* The number of a word. */
+static uint32_t number_of(uint32_t word) { return word & 0x0FFFFFFF; }
+
+/* Prints a line of a name and the numbers of words. */
+static void print_numbers(const char *name, const uint32_t *words, size_t count) {
+    printf("%s", name);
+    for (size_t i = 0; i < count; i++)
+        printf(" %" PRIu32, number_of(words[i]));
+    printf("\n");
+}
+
+/* Prints a refusal, and checks its number. */
+static void print_refusal(uint32_t meant, uint32_t number, size_t place) {
+    printf("refused %" PRIu32 " at %zu\n", number, place);
+    if (number != meant) {
+        fprintf(stderr, "refusal %" PRIu32 " was meant\n", meant);
+        failed = 1;
+    }
+}
+
+int main(void) {
+    zohapy_read_answer reading = zohapy_read(whole, WORDS(whole));
+    zohapy_answer report = zohapy_report(whole, WORDS(whole), out, WORDS(out), work, WORDS(work));
+    if (reading.number != 0 || report.number != 0) {
+        fprintf(stderr, "a report was meant\n");
+        return 1;
+    }
+    size_t width = number_of(out[0]);
+    printf("episodes %zu\nlinks %zu\nwidth %zu\n", reading.episodes, reading.links, width);
+    print_numbers("apart", out + 1, width);
+    for (size_t i = 0; i < width; i++) {
+        zohapy_thread_answer thread = zohapy_thread(out, report.value, i);
+        print_numbers("thread", out + thread.start, thread.length);
+    }
+
+    uint32_t copied[ZOHAPY_COPY_WORDS(2)];
+    zohapy_answer copy = zohapy_fair_copy(whole, WORDS(whole), copied, WORDS(copied), work, WORDS(work));
+    if (copy.number != 0) {
+        fprintf(stderr, "a copy was meant\n");
+        return 1;
+    }
+    printf("copy");
+    for (size_t i = 0; i < copy.value; i++)
+        printf(" %08" PRIX32, copied[i]);
+    printf("\n");
+
+    for (size_t i = 0; i < WORDS(refused); i++) {
+        zohapy_read_answer answer = zohapy_read(refused[i].words, refused[i].count);
+        print_refusal(refused[i].number, answer.number, answer.place);
+    }
+
+    /* A report on the whole example with too short an output and with too few work words; neither changes a word. */
+    zohapy_answer answer = zohapy_report(whole, WORDS(whole), out, WORDS(out) - 1, work, WORDS(work));
+    print_refusal(11, answer.number, answer.value);
+    answer = zohapy_report(whole, WORDS(whole), out, WORDS(out), work, WORDS(work) - 1);
+    print_refusal(12, answer.number, answer.value);
+
+    /* A log with a loop: its episodes stand behind the first output word. The loop is no report. */
+    answer = zohapy_report(loop, WORDS(loop), out, WORDS(out), work, WORDS(work));
+    print_refusal(13, answer.number, answer.value);
+    print_numbers("loop", out + 1, number_of(out[0]));
+    print_refusal(16, zohapy_thread(out, answer.value + 1, 0).number, 0);
+
+    /* A report of one thread, and the call for a second one. */
+    const uint32_t one[] = {0x40000001, 0x50000000, 0x60000001, 0x70000000, 0xF0000004};
+    print_refusal(17, zohapy_thread(one, WORDS(one), 1).number, 0);
+    return failed;
+}

@@ -1,0 +1,218 @@
+//! A log as its episodes and links, and its text form: a line `episodes N`, then a line `A-B` for each link.
+
+use std::fmt;
+
+use zohapy::{Refusal, kind, number};
+
+/// The numbers that a word has room for are below this.
+const NUMBERS: u32 = 1 << 28;
+
+/// A log: how many episodes it has, and its links in order.
+#[derive(Clone, Debug, PartialEq, Eq)]
+pub struct Log {
+    pub episodes: u32,
+    pub links: Vec<(u32, u32)>,
+}
+
+/// A text that is no text form: the line, counted from 1, and what is expected there.
+#[derive(Clone, Debug, PartialEq, Eq)]
+pub struct TextError {
+    pub line: usize,
+    pub expected: Expected,
+}
+
+/// What a line of the text form holds.
+#[derive(Clone, Copy, Debug, PartialEq, Eq)]
+pub enum Expected {
+    Episodes,
+    Link,
+    NoMoreLinks,
+}
+
+impl fmt::Display for TextError {
+    fn fmt(&self, f: &mut fmt::Formatter<'_>) -> fmt::Result {
+        write!(f, "line {}: expected ", self.line)?;
+        match self.expected {
+            Expected::Episodes => write!(f, "episodes N, with a number below {NUMBERS}"),
+            Expected::Link => write!(f, "a link A-B, with two numbers below {NUMBERS}"),
+            Expected::NoMoreLinks => write!(f, "no more links, of which there can be {}", NUMBERS - 1),
+        }
+    }
+}
+
+impl Log {
+    /// The log of a text form. Blank lines and lines that start with `#` are passed over. Whether the library would pass the log
+    /// is not asked.
+    pub fn from_text(text: &str) -> Result<Log, TextError> {
+        let mut log: Option<Log> = None;
+        let mut last = 0;
+        for (line, content) in text.lines().map(str::trim).enumerate() {
+            last = line;
+            if content.is_empty() || content.starts_with('#') {
+                continue;
+            }
+            let error = |expected| TextError { line: line + 1, expected };
+            match &mut log {
+                None => {
+                    let episodes = episodes_of(content).ok_or(error(Expected::Episodes))?;
+                    log = Some(Log { episodes, links: Vec::new() });
+                }
+                Some(log) => {
+                    log.links.push(link_of(content).ok_or(error(Expected::Link))?);
+                    if log.links.len() >= NUMBERS as usize {
+                        return Err(error(Expected::NoMoreLinks));
+                    }
+                }
+            }
+        }
+        log.ok_or(TextError { line: last + 1, expected: Expected::Episodes })
+    }
+
+    /// The log of words that pass the reading.
+    pub fn from_words(words: &[u32]) -> Result<Log, Refusal> {
+        let reading = zohapy::read(words)?;
+        let mut links = Vec::with_capacity(reading.links);
+        let mut from = 0;
+        for word in &words[1..words.len() - 1] {
+            match kind(*word) {
+                2 => from = number(*word),
+                _ => links.push((from, number(*word))),
+            }
+        }
+        Ok(Log { episodes: number(words[0]), links })
+    }
+
+    /// The words of the log. Links that follow each other and leave the same episode share a from word.
+    pub fn words(&self) -> Vec<u32> {
+        let mut words = vec![0x1000_0000 | self.episodes];
+        for group in self.links.chunk_by(|a, b| a.0 == b.0) {
+            words.push(0x2000_0000 | group[0].0);
+            words.extend(group.iter().map(|link| 0x3000_0000 | link.1));
+        }
+        words.push(0xF000_0000 | self.links.len() as u32);
+        words
+    }
+}
+
+/// The text form of the log.
+impl fmt::Display for Log {
+    fn fmt(&self, f: &mut fmt::Formatter<'_>) -> fmt::Result {
+        writeln!(f, "episodes {}", self.episodes)?;
+        self.links.iter().try_for_each(|(from, to)| writeln!(f, "{from}-{to}"))
+    }
+}
+
+/// The number of a line `episodes N`.
+fn episodes_of(line: &str) -> Option<u32> {
+    let (name, number) = line.split_once(char::is_whitespace)?;
+    if name == "episodes" { number_of(number) } else { None }
+}
+
+/// The two numbers of a line `A-B`.
+fn link_of(line: &str) -> Option<(u32, u32)> {
+    let (from, to) = line.split_once('-')?;
+    Some((number_of(from)?, number_of(to)?))
+}
+
+/// A number in digits that a word has room for.
+fn number_of(digits: &str) -> Option<u32> {
+    let digits = digits.trim();
+    if !digits.bytes().all(|digit| digit.is_ascii_digit()) {
+        return None;
+    }
+    digits.parse().ok().filter(|number| *number < NUMBERS)
+}
+
+#[cfg(test)]
+mod tests {
+    use super::*;
+    use crate::random::Random;
+
+    const WHOLE_TEXT: &str = "episodes 5\n0-1\n2-3\n";
+    const WHOLE: [u32; 6] = [0x1000_0005, 0x2000_0000, 0x3000_0001, 0x2000_0002, 0x3000_0003, 0xF000_0002];
+
+    fn error(text: &str) -> (usize, Expected) {
+        let error = Log::from_text(text).expect_err("the text is no text form");
+        (error.line, error.expected)
+    }
+
+    #[test]
+    fn the_whole_example_goes_both_ways() {
+        assert_eq!(Log::from_text(WHOLE_TEXT).map(|log| log.words()), Ok(WHOLE.to_vec()));
+        assert_eq!(Log::from_words(&WHOLE).map(|log| log.to_string()), Ok(WHOLE_TEXT.to_string()));
+    }
+
+    #[test]
+    fn links_from_the_same_episode_share_a_from_word_where_they_follow_each_other() {
+        let log = Log::from_text("episodes 4\n0-1\n0-2\n1-3\n0-3\n").expect("a text form");
+        let words = [0x2000_0000, 0x3000_0001, 0x3000_0002, 0x2000_0001, 0x3000_0003, 0x2000_0000, 0x3000_0003];
+        assert_eq!(log.words(), [&[0x1000_0004], &words[..], &[0xF000_0004]].concat());
+    }
+
+    #[test]
+    fn spaces_blank_lines_and_comments_are_passed_over() {
+        let log = Log::from_text("# a night\n\n  episodes \t 5 \r\n # of two links\n 0 - 1 \n\n2-3");
+        assert_eq!(log, Log::from_text(WHOLE_TEXT));
+    }
+
+    #[test]
+    fn a_log_that_the_library_refuses_has_bytes_too() {
+        let log = Log::from_text("episodes 268435455\n268435455-0\n").expect("the numbers have room");
+        assert_eq!(log.words(), [0x1FFF_FFFF, 0x2FFF_FFFF, 0x3000_0000, 0xF000_0001]);
+        assert_eq!(Log::from_words(&log.words()), Err(Refusal { number: 3, place: 0 }));
+    }
+
+    #[test]
+    fn the_first_line_gives_the_episodes() {
+        for text in
+            ["", "\n", "0-1\n", "episode 5\n", "episodes\n", "episodes5\n", "episodes -5\n", "episodes +5\n", "episodes 5 6\n"]
+        {
+            assert_eq!(error(text), (1, Expected::Episodes), "{text:?}");
+        }
+        assert_eq!(error("episodes 268435456"), (1, Expected::Episodes));
+        assert_eq!(error("episodes 99999999999999999999"), (1, Expected::Episodes));
+        assert_eq!(error("# only this\n\n"), (2, Expected::Episodes));
+        assert_eq!(error("# first\nEpisodes 5\n"), (2, Expected::Episodes));
+    }
+
+    #[test]
+    fn every_other_line_is_a_link() {
+        for link in
+            ["0", "0-", "-1", "0--1", "0-1-2", "a-1", "0-b", "0 1", "+0-1", "0-268435456", "4294967296-0", "episodes 5", "٣-1"]
+        {
+            assert_eq!(error(&format!("episodes 5\n# a comment\n0-1\n{link}\n")), (4, Expected::Link), "{link:?}");
+        }
+    }
+
+    #[test]
+    fn an_error_names_the_line_and_what_is_expected() {
+        let message = |text| Log::from_text(text).expect_err("the text is no text form").to_string();
+        assert_eq!(message("links 5"), "line 1: expected episodes N, with a number below 268435456");
+        assert_eq!(message("episodes 5\n0_1"), "line 2: expected a link A-B, with two numbers below 268435456");
+    }
+
+    #[test]
+    fn random_logs_go_both_ways() {
+        let mut random = Random::new();
+        for _ in 0..200 {
+            let episodes = 1 + random.below(200);
+            let links = (0..random.below(300)).map(|_| (random.below(episodes), random.below(episodes))).collect();
+            let log = Log { episodes, links };
+            assert_eq!(Log::from_text(&log.to_string()).as_ref(), Ok(&log));
+            assert_eq!(Log::from_words(&log.words()).as_ref(), Ok(&log));
+        }
+    }
+
+    #[test]
+    fn other_groups_give_the_same_links() {
+        let mut random = Random::new();
+        for _ in 0..200 {
+            let episodes = 1 + random.below(4);
+            let links: Vec<_> = (0..random.below(20)).map(|_| (random.below(episodes), random.below(episodes))).collect();
+            let mut words = vec![0x1000_0000 | episodes];
+            words.extend(links.iter().flat_map(|(from, to)| [0x2000_0000 | from, 0x3000_0000 | to]));
+            words.push(0xF000_0000 | links.len() as u32);
+            assert_eq!(Log::from_words(&words), Ok(Log { episodes, links }));
+        }
+    }
+}

@@ -1,0 +1,64 @@
+//! The tool on the logs in samples/. Each has what a report program prints for it; all but the damaged one have a text form and a
+//! picture.
+
+use std::path::PathBuf;
+use std::process::{Command, Output};
+
+use zohapy::{Report, words_from_bytes};
+
+/// The samples, and whether they have a text form.
+const SAMPLES: [(&str, bool); 5] =
+    [("whole-example", true), ("small-night", true), ("full-night", true), ("loop", true), ("damaged", false)];
+
+fn path(name: &str, ending: &str) -> PathBuf {
+    [env!("CARGO_MANIFEST_DIR"), "..", "samples", &format!("{name}.{ending}")].iter().collect()
+}
+
+fn content(name: &str, ending: &str) -> Vec<u8> {
+    std::fs::read(path(name, ending)).expect("the sample is there")
+}
+
+/// What the command gives for a sample.
+fn run(command: &str, name: &str, ending: &str) -> Output {
+    Command::new(env!("CARGO_BIN_EXE_zohapy-tool")).arg(command).arg(path(name, ending)).output().expect("the command runs")
+}
+
+#[test]
+fn text_forms_and_bytes_belong_together() {
+    for (name, _) in SAMPLES.iter().filter(|sample| sample.1) {
+        assert!(run("text", name, "log").stdout == content(name, "txt"), "{name}");
+        assert!(run("bytes", name, "txt").stdout == content(name, "log"), "{name}");
+    }
+}
+
+#[test]
+fn the_lines_are_those_of_the_library() {
+    for (name, _) in SAMPLES {
+        let words = words_from_bytes(&content(name, "log")).expect("the bytes are words");
+        let lines = match Report::of(&words) {
+            Ok(report) => report.to_string(),
+            Err(failure) => failure.to_string(),
+        };
+        assert_eq!(lines.as_bytes(), content(name, "out"), "{name}");
+    }
+}
+
+#[test]
+fn each_has_a_picture_or_a_refusal() {
+    for (name, text_form) in SAMPLES {
+        let Output { status, stdout, stderr } = run("picture", name, "log");
+        if text_form {
+            assert!(status.success() && stdout.starts_with(b"<svg ") && stderr.is_empty(), "{name}");
+        } else {
+            assert_eq!((status.code(), &stdout[..], &stderr[..]), (Some(1), &b""[..], &content(name, "out")[..]), "{name}");
+            assert_eq!(run("text", name, "log").status.code(), Some(1));
+        }
+    }
+}
+
+#[test]
+fn other_trouble_has_status_2() {
+    assert_eq!(run("bytes", "full-night", "log").status.code(), Some(2));
+    assert_eq!(run("text", "no such sample", "log").status.code(), Some(2));
+    assert_eq!(run("sing", "full-night", "log").status.code(), Some(2));
+}
