@@ -77,17 +77,17 @@ fn chain_start(w: &[u32], v: usize) -> usize
     x
 }
 
-// The first episode that `c` has a link to and that is `b` or has a way to `b`.
+// The next episode on a path from `c` to `b`: `b` where there is a link, else the first that `c` has a link to and that has a way to `b`.
 fn hop(w: &[u32], n: usize, c: usize, b: usize) -> usize
     requires { ⌜ ((g : Graph) × Solved g n (now w)) × (c < n) × (b < n) × (bit (now w) (waysAt + 8 * c) b ≡ 1) ⌝ }
     ensures { λ r. ⌜ HopTo (now (w .entry)) c b r ⌝ }
 {
     let row = LINKS + 8 * c;
+    if bits::bit_at(w, row, b) == 1 {
+        return b;
+    }
     let mut x = bits::next_new(w, row, NONE, 0);
     while x < n {
-        if x == b {
-            return x;
-        }
         if bits::bit_at(w, WAYS + 8 * x, b) == 1 {
             return x;
         }

@@ -18,20 +18,22 @@ mul-row c = omega arith
 add-row : tie.Need-add-row Inv-loop μ-loop
 add-row c = omega arith
 
+bit-at-requires : tie.Need-bit-at-requires Inv-loop μ-loop
+bit-at-requires c κs = omega arith
+
+returns : tie.Need-returns Inv-loop μ-loop
+returns c =
+    let a = c .before .before .before .args in
+    hop-there (a .w .now) (a .c) (a .b) (omega arith) (omega arith)
+
 next-new-requires : tie.Need-next-new-requires Inv-loop μ-loop
 next-new-requires c κs = omega arith
 
 loop-holds : tie.Need-loop-holds Inv-loop μ-loop
 loop-holds c =
-    let b = c .before .before in
+    let b = c .before .before .before .before in
     let a = b .args in
     hop-first (a .w .now) (a .n) (a .c) (a .b) (b .pre .0) (c .next-new .result) (c .next-new .ensures)
-
-returns : tie.Need-returns Inv-loop μ-loop
-returns c =
-    let a = c .before .before .before .before .before .args in
-    let at = c .before .before .loop in
-    hop-there (a .w .now) (a .c) (a .b) (at .x) (at .inv) (omega arith) (omega arith)
 
 mul-bit-at : tie.Need-mul-bit-at Inv-loop μ-loop
 mul-bit-at c = omega arith
@@ -39,13 +41,13 @@ mul-bit-at c = omega arith
 add-bit-at : tie.Need-add-bit-at Inv-loop μ-loop
 add-bit-at c = omega arith
 
-bit-at-requires : tie.Need-bit-at-requires Inv-loop μ-loop
-bit-at-requires c κs = omega arith
+bit-at-requires-2 : tie.Need-bit-at-requires-2 Inv-loop μ-loop
+bit-at-requires-2 c κs = omega arith
 
 returns-2 : tie.Need-returns-2 Inv-loop μ-loop
 returns-2 c =
-    let a = c .before .before .before .before .before .before .before .args in
-    let at = c .before .before .before .before .loop in
+    let a = c .before .before .before .before .before .before .before .before .args in
+    let at = c .before .before .before .loop in
     hop-nearer (a .w .now) (a .c) (a .b) (at .x) (at .inv) (omega arith) (omega arith)
 
 add-next-new : tie.Need-add-next-new Inv-loop μ-loop
@@ -59,18 +61,17 @@ loop-less c = omega arith
 
 loop-again : tie.Need-loop-again Inv-loop μ-loop
 loop-again c =
-    let b = c .before .before .before .before .before .before .before .before in
+    let b = c .before .before .before .before .before .before .before .before .before in
     let a = b .args in
-    let at = c .before .before .before .before .before .loop in
-    hop-next (a .w .now) (a .n) (a .c) (a .b) (b .pre .0) (at .x) (c .next-new2 .result) (at .inv) (λ e. omega arith) (λ e. omega arith)
-    (c .next-new2 .ensures)
+    let at = c .before .before .before .before .loop in
+    hop-next (a .w .now) (a .n) (a .c) (a .b) (b .pre .0) (at .x) (c .next-new2 .result) (at .inv) (λ e. omega arith) (c .next-new2 .ensures)
 
 returns-3 : tie.Need-returns-3 Inv-loop μ-loop
 returns-3 c =
-    let b = c .before .before .before .before in
+    let b = c .before .before .before .before .before .before in
     let a = b .args in
     let at = c .before .loop in
-    absurd (hop-done (a .w .now) (a .n) (a .c) (a .b) (b .pre .0) (at .x) (b .pre .1) (b .pre .2) (b .pre .3) (at .inv) (omega arith))
+    absurd (hop-done (a .w .now) (a .n) (a .c) (a .b) (b .pre .0) (at .x) (b .pre .1) (b .pre .2) (b .pre .3) (λ e. omega arith) (at .inv) (omega arith))
 
 pub hop-spec : {M : Type 1} → statement M
 hop-spec =
@@ -80,12 +81,13 @@ hop-spec =
     μ-loop
     mul-row
     add-row
+    bit-at-requires
+    returns
     next-new-requires
     loop-holds
-    returns
     mul-bit-at
     add-bit-at
-    bit-at-requires
+    bit-at-requires-2
     returns-2
     add-next-new
     next-new-requires-2
