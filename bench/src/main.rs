@@ -1,1 +1,56 @@
-fn main() {}
+//! Measures the library beside a plain program.
+//!
+//! - `measurements times [ROUNDS]` checks that both programs give right reports, and prints tables of times;
+//! - `measurements call PROGRAM LOG` makes one call, for a count of its instructions.
+
+mod plain;
+mod reports;
+mod shapes;
+mod times;
+
+use std::hint::black_box;
+use zohapy::{WORK_WORDS, copy_words, report_words};
+
+/// The log of a key: a shape's, the whole example, or `random-COUNT`.
+fn log_named(key: &str) -> Option<Vec<u32>> {
+    if key == "example" {
+        return Some(shapes::log_of(5, &[(0, 1), (2, 3)]));
+    }
+    if let Some(count) = key.strip_prefix("random-") {
+        return Some(shapes::log_of(200, &shapes::random(2, 200, 200, count.parse().ok()?)));
+    }
+    shapes::all().into_iter().find(|shape| shape.key == key).map(|shape| shape.log)
+}
+
+/// One call of the program that is named.
+fn call(program: &str, log: &[u32]) -> Option<()> {
+    let mut out = vec![7; report_words(200).max(copy_words(4096))];
+    let mut work = vec![7; WORK_WORDS];
+    match program {
+        "read" => drop(black_box(zohapy::read(black_box(log)))),
+        "report" => drop(black_box(zohapy::report(black_box(log), &mut out, &mut work))),
+        "copy" => drop(black_box(zohapy::fair_copy(black_box(log), &mut out, &mut work))),
+        "plain" => drop(black_box(plain::report(black_box(log), &mut out, &mut work))),
+        _ => return None,
+    }
+    Some(())
+}
+
+fn run(words: &[&str]) -> Option<()> {
+    match words {
+        ["times"] => times::print(3001),
+        ["times", rounds] => times::print(rounds.parse().ok()?),
+        ["call", program, key] => call(program, &log_named(key)?)?,
+        _ => return None,
+    }
+    Some(())
+}
+
+fn main() {
+    let words: Vec<String> = std::env::args().skip(1).collect();
+    let words: Vec<&str> = words.iter().map(String::as_str).collect();
+    if run(&words).is_none() {
+        eprintln!("measurements times [ROUNDS] | measurements call read|report|copy|plain LOG");
+        std::process::exit(2);
+    }
+}

@@ -1,8 +1,6 @@
 -- `zohapy::zohapy_report` meets its contract: the call leaves what the report call left, and says it in numbers. Assumes nothing.
-use mathlib.Core.Path.{ap}
-use Rattle.report.specs.Report.{outcomeAnswer}
-use Rattle.report.specs.declared.Outcome.{Outcome}
-use Rattle.zohapy.specs.Exported.{numbers}
+use native.Mathlib.Omega.{arith}
+use Rattle.zohapy.proofs.Numbers.{report-numbers, loop-numbers, refusal-numbers}
 use borrow.Author.Needs.{needs}
 use Rattle.zohapy.proofs.zohapy_report.Statement.{statement}
 use Rattle.zohapy.proofs.zohapy_report.Tie as tie
@@ -28,7 +26,7 @@ same-length-2 c = search needs
 returns : tie.Need-returns
 returns c =
     let at = c .before .before .before .before .before .before .before in
-    (at .report .result, at .report .ensures, ap (λ (r : Outcome). numbers (outcomeAnswer r)) (c .before .count .given .1))
+    (at .report .result, at .report .ensures, report-numbers (at .report .result) _ _ (c .before .count .given .0 .0) (c .before .count .given .1) (omega arith) (omega arith))
 
 same-length-3 : tie.Need-same-length-3
 same-length-3 c = search needs
@@ -39,7 +37,7 @@ same-length-4 c = search needs
 returns-2 : tie.Need-returns-2
 returns-2 c =
     let at = c .before .before .before .before .before .before .before in
-    (at .report .result, at .report .ensures, ap (λ (r : Outcome). numbers (outcomeAnswer r)) (c .before .length .given .1))
+    (at .report .result, at .report .ensures, loop-numbers (at .report .result) _ _ (c .before .length .given .0 .0) (c .before .length .given .1) (omega arith) (omega arith))
 
 same-length-5 : tie.Need-same-length-5
 same-length-5 c = search needs
@@ -50,7 +48,7 @@ same-length-6 c = search needs
 returns-3 : tie.Need-returns-3
 returns-3 c =
     let at = c .before .before .before .before .before .before .before in
-    (at .report .result, at .report .ensures, ap (λ (r : Outcome). numbers (outcomeAnswer r)) (c .before .number .given .1))
+    (at .report .result, at .report .ensures, refusal-numbers (at .report .result) _ _ (c .before .number .given .0 .0) (c .before .number .given .0 .1 .0) (c .before .number .given .1) (omega arith) (omega arith))
 
 pub zohapy-report-spec : {M : Type 1} → statement M
 zohapy-report-spec =

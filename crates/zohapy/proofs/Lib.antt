@@ -1,0 +1,2 @@
+-- The outcomes in numbers.
+pub mod Numbers

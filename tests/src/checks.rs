@@ -1,0 +1,100 @@
+//! The checks by name, and what they found.
+
+/// What is compared. Every one of them must be able to fail: the faults show it.
+#[derive(Clone, Copy, Debug, PartialEq, Eq)]
+pub enum Check {
+    Number,
+    Place,
+    Values,
+    LogKept,
+    OutKept,
+    OutBehind,
+    WorkKept,
+    WorkZero,
+    WorkBehind,
+    Outside,
+    Layout,
+    Width,
+    EqualSizes,
+    Apart,
+    Rising,
+    Cover,
+    Paired,
+    Furthest,
+    Loop,
+    FairCopy,
+    Stretch,
+    SameCopy,
+    OtherCopy,
+    CopyOfCopy,
+    SameReport,
+    OwnThreads,
+    Worked,
+    Ends,
+}
+
+use Check::*;
+
+pub const CHECKS: [(Check, &str, &str); 28] = [
+    (Number, "number", "the answer's number: 0 or that of the refusal"),
+    (Place, "place", "the refusal's place"),
+    (Values, "values", "n and the count of to words; the copy's count of words"),
+    (LogKept, "log kept", "the words that came in are unchanged"),
+    (OutKept, "output kept", "after refusals 1 to 12 the output is unchanged"),
+    (OutBehind, "output behind", "behind what is written the output is unchanged"),
+    (WorkKept, "work kept", "after refusals 1 to 12 the work buffer is unchanged"),
+    (WorkZero, "work zero", "after the others the first 16,384 work words are zero"),
+    (WorkBehind, "work behind", "and the others unchanged"),
+    (Outside, "outside", "the words around the lent ones are unchanged"),
+    (Layout, "layout", "kinds, lengths, the end's count and the answer's count of words"),
+    (Width, "width", "kind 4 holds the width"),
+    (EqualSizes, "equal sizes", "as many members as threads, and as kind 4 says"),
+    (Apart, "apart", "members are episodes, and none has a way to another or is there twice"),
+    (Rising, "rising", "the members rise"),
+    (Cover, "cover", "each next pair of steps is a link, and every episode is on a thread"),
+    (Paired, "paired", "thread i holds member i and no other member"),
+    (Furthest, "furthest", "the apart set is the furthest"),
+    (Loop, "loop", "different episodes, linked and closed, the smallest first, as many as the place says"),
+    (FairCopy, "fair copy", "the copy, word for word"),
+    (Stretch, "stretch", "the stretch of thread i, or an empty one"),
+    (SameCopy, "same copy", "logs with the same n and links have the same copy"),
+    (OtherCopy, "other copy", "a link more, or an episode more, gives another copy"),
+    (CopyOfCopy, "copy of copy", "the copy of a copy is the copy"),
+    (SameReport, "same report", "logs with the same n and links have the same width and apart set, or both a loop"),
+    (OwnThreads, "own threads", "each thread of a report can be had from its words, and no other"),
+    (Worked, "worked", "the logs that were worked through by hand"),
+    (Ends, "ends", "the call comes back, without a panic"),
+];
+
+pub fn name(check: Check) -> &'static str {
+    CHECKS.iter().find(|row| row.0 == check).expect("every check has a row").1
+}
+
+/// What the checks of one call found.
+#[derive(Default)]
+pub struct Found(pub Vec<(Check, String)>);
+
+impl Found {
+    pub fn say(&mut self, check: Check, what: impl FnOnce() -> String) {
+        if !self.0.iter().any(|found| found.0 == check) {
+            self.0.push((check, what()));
+        }
+    }
+
+    /// Records a failure unless `holds`.
+    pub fn ask(&mut self, check: Check, holds: bool, what: impl FnOnce() -> String) {
+        if !holds {
+            self.say(check, what);
+        }
+    }
+}
+
+/// A call whose answer or buffers are not what they must be.
+pub struct Disagreement {
+    pub service: &'static str,
+    pub found: Vec<(Check, String)>,
+    pub lengths: String,
+    pub words: Vec<u32>,
+}
+
+pub type Checked<T> = Result<T, Box<Disagreement>>;

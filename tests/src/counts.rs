@@ -1,0 +1,246 @@
+//! How often everything was met, and the table that a run ends with.
+
+/// A list of things that are counted, each with its name in the table.
+macro_rules! counted {
+    ($(#[$note:meta])* $list:ident { $($item:ident = $name:literal,)* }) => {
+        $(#[$note])*
+        #[derive(Clone, Copy, Debug, PartialEq, Eq)]
+        pub enum $list { $($item,)* }
+
+        impl $list {
+            pub const NAMES: &'static [&'static str] = &[$($name,)*];
+        }
+    };
+}
+
+counted! { Service { Read = "read", Report = "report", FairCopy = "fair_copy", Thread = "thread", } }
+
+counted! {
+    /// The shapes of logs.
+    Shape {
+        Tiny = "tiny, 0 to 4 episodes",
+        Sparse = "sparse",
+        Dense = "dense",
+        Layered = "layered",
+        Crossings = "chains with crossings",
+        Stem = "a stem that threads share",
+        Wide = "wide, few links",
+        Repeats = "repeats",
+        Loops = "with loops",
+        Full = "full size, 200 and 4,096",
+        Ceilings = "around the ceilings",
+        Damaged = "damaged",
+        Scrap = "words at random",
+    }
+}
+
+counted! {
+    /// The sizes of logs that pass.
+    Size { Few = "at most 12", Some = "13 to 24", More = "25 to 60", Many = "61 to 199", Most = "200", }
+}
+
+counted! {
+    /// What is done to a log that passes.
+    Damage {
+        Kind = "a kind changed",
+        NumberStep = "a number one up or down",
+        Number = "another number",
+        Word = "another word",
+        Removed = "a word removed",
+        Added = "a word added",
+        Doubled = "a word doubled",
+        Swapped = "two words swapped",
+        Truncated = "cut off",
+        Emptied = "no words left",
+        Head = "the head changed",
+        End = "the end changed",
+        From = "a from word more",
+        FirstFrom = "the first from word removed",
+    }
+}
+
+counted! {
+    /// The words that a thread is asked of.
+    Asked {
+        Whole = "a report",
+        Behind = "a report with words behind it",
+        DamagedReport = "a damaged report",
+        MadeUp = "a layout without a log",
+        DamagedLayout = "a damaged layout",
+        OtherWords = "a log, a loop, a copy or any words",
+    }
+}
+
+counted! {
+    /// Lengths of the lent output, against the words needed.
+    OutLength {
+        Zero = "0",
+        Shorter = "shorter",
+        OneShort = "need - 1",
+        Need = "need",
+        OneMore = "need + 1",
+        Longer = "longer",
+        MuchLonger = "much longer",
+    }
+}
+
+counted! {
+    /// Lengths of the work buffer.
+    WorkLength { Zero = "0", Shorter = "shorter", OneShort = "16,383", Need = "16,384", OneMore = "16,385", Longer = "longer", }
+}
+
+counted! {
+    /// The properties across calls.
+    Property {
+        SameLinks = "same links, other order and repeats",
+        CopyOfCopy = "copy of a copy",
+        LinkMore = "a link more",
+        EpisodeMore = "an episode more",
+        OwnThreads = "threads of its own report",
+    }
+}
+
+/// One more than the largest refusal number.
+const NUMBERS: usize = 18;
+
+/// The answers that each service can give, all of which have to be met.
+const MUST: [&[usize]; 4] = [
+    &[0, 1, 2, 3, 4, 5, 6, 7, 8, 9, 10],
+    &[0, 1, 2, 3, 4, 5, 6, 7, 8, 9, 10, 11, 12, 13],
+    &[0, 1, 2, 3, 4, 5, 6, 7, 8, 9, 10, 11, 12],
+    &[0, 16, 17],
+];
+
+#[derive(Clone)]
+pub struct Counts {
+    pub calls: u64,
+    pub rounds: u64,
+    numbers: [[u64; NUMBERS]; 4],
+    lists: [(&'static str, &'static [&'static str], Vec<u64>); 8],
+}
+
+impl Counts {
+    pub fn new() -> Counts {
+        let list = |title, names: &'static [&'static str]| (title, names, vec![0; names.len()]);
+        Counts {
+            calls: 0,
+            rounds: 0,
+            numbers: [[0; NUMBERS]; 4],
+            lists: [
+                list("calls by shape of log", Shape::NAMES),
+                list("calls by size of a log that passes", Size::NAMES),
+                list("damage done", Damage::NAMES),
+                list("thread calls by words", Asked::NAMES),
+                list("calls by output length", OutLength::NAMES),
+                list("calls by work length", WorkLength::NAMES),
+                list("properties", Property::NAMES),
+                list("calls by interface", &["Rust wrapper", "C header"]),
+            ],
+        }
+    }
+
+    pub fn call(&mut self, service: Service, number: u32) {
+        self.calls += 1;
+        if let Some(count) = self.numbers[service as usize].get_mut(number as usize) {
+            *count += 1;
+        }
+    }
+
+    pub fn shape(&mut self, shape: Shape) {
+        self.lists[0].2[shape as usize] += 1;
+    }
+
+    pub fn size(&mut self, n: usize) {
+        let size = match n {
+            0..=12 => Size::Few,
+            13..=24 => Size::Some,
+            25..=60 => Size::More,
+            61..=199 => Size::Many,
+            _ => Size::Most,
+        };
+        self.lists[1].2[size as usize] += 1;
+    }
+
+    pub fn damage(&mut self, damage: Damage) {
+        self.lists[2].2[damage as usize] += 1;
+    }
+
+    pub fn asked(&mut self, asked: Asked) {
+        self.lists[3].2[asked as usize] += 1;
+    }
+
+    pub fn lengths(&mut self, out: OutLength, work: WorkLength) {
+        self.lists[4].2[out as usize] += 1;
+        self.lists[5].2[work as usize] += 1;
+    }
+
+    pub fn property(&mut self, property: Property) {
+        self.lists[6].2[property as usize] += 1;
+    }
+
+    pub fn interface(&mut self, c: bool) {
+        self.lists[7].2[usize::from(c)] += 1;
+    }
+
+    pub fn add(&mut self, other: &Counts) {
+        self.calls += other.calls;
+        self.rounds += other.rounds;
+        for (mine, theirs) in self.numbers.iter_mut().flatten().zip(other.numbers.iter().flatten()) {
+            *mine += theirs;
+        }
+        for (mine, theirs) in self.lists.iter_mut().zip(&other.lists) {
+            for (mine, theirs) in mine.2.iter_mut().zip(&theirs.2) {
+                *mine += theirs;
+            }
+        }
+    }
+
+    /// What was met fewer than `floor` times.
+    pub fn missing(&self, floor: u64) -> Vec<String> {
+        let mut missing = Vec::new();
+        for (service, must) in MUST.iter().enumerate() {
+            for &number in must.iter().filter(|&&number| self.numbers[service][number] < floor) {
+                missing.push(format!("{} with number {number}: {}", Service::NAMES[service], self.numbers[service][number]));
+            }
+        }
+        for (title, names, counts) in &self.lists {
+            for (name, count) in names.iter().zip(counts).filter(|(_, count)| **count < floor) {
+                missing.push(format!("{title}, {name}: {count}"));
+            }
+        }
+        missing
+    }
+
+    pub fn print(&self) {
+        println!("answers by service; 0 is no refusal");
+        println!("{:>8} {:>12} {:>12} {:>12} {:>12}", "number", "read", "report", "fair_copy", "thread");
+        for number in (0..NUMBERS).filter(|number| MUST.iter().any(|must| must.contains(number))) {
+            let of = |service: usize| {
+                let count = self.numbers[service][number];
+                if count == 0 && !MUST[service].contains(&number) { "-".into() } else { grouped(count) }
+            };
+            println!("{number:>8} {:>12} {:>12} {:>12} {:>12}", of(0), of(1), of(2), of(3));
+        }
+        let sum = |service: usize| grouped(self.numbers[service].iter().sum());
+        println!("{:>8} {:>12} {:>12} {:>12} {:>12}", "all", sum(0), sum(1), sum(2), sum(3));
+        for (title, names, counts) in &self.lists {
+            println!("{title}");
+            for (name, count) in names.iter().zip(counts) {
+                println!("{:>12}  {name}", grouped(*count));
+            }
+        }
+    }
+}
+
+/// A count with a comma before every three figures.
+pub fn grouped(count: u64) -> String {
+    let figures = count.to_string();
+    let mut text = String::new();
+    for (i, figure) in figures.chars().enumerate() {
+        if i > 0 && (figures.len() - i).is_multiple_of(3) {
+            text.push(',');
+        }
+        text.push(figure);
+    }
+    text
+}

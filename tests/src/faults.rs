@@ -1,0 +1,445 @@
+//! Deliberate faults: each alters what the library answers or leaves. The checks have to catch every one.
+
+use crate::checkers::{self, Shown};
+use crate::lent::Lent;
+use crate::reference::{Graph, WORK, in_order, parts, report_need};
+use crate::services::{Answer, Door, Library, ReadAnswer, Services, ThreadAnswer};
+use crate::words::{APART, END, FROM, HEAD, LARGEST, Link, STEP, THREAD, TO, WIDTH, kind, number, word};
+
+macro_rules! faults {
+    ($($fault:ident = $name:literal,)*) => {
+        #[derive(Clone, Copy, Debug, PartialEq, Eq)]
+        pub enum Fault { $($fault,)* }
+
+        pub const FAULTS: &[(Fault, &str)] = &[$((Fault::$fault, $name),)*];
+    };
+}
+
+faults! {
+    PlaceOff = "a refusal's place one too high",
+    SevenBeforeSix = "question 7 before question 6",
+    EightEarly = "8 for the 4,096th to word",
+    PassingRefused = "3 for 200 episodes",
+    EndBelieved = "the end's number taken for the count",
+    RepeatsOnce = "the reading counts a repeated link once",
+    OneMore = "width one higher: a member and a single thread more",
+    KindFour = "kind 4 alone one higher",
+    LeastFar = "the largest apart set that is least far along",
+    ShareNothing = "threads that share nothing",
+    NoLink = "apart as no link",
+    OneThreadThenSingles = "one true thread, then single episodes",
+    Greedy = "each time the thread with most uncovered episodes",
+    RefusesAll = "every log refused with 10",
+    OneForAll = "one report for all logs",
+    NoWords = "no words written",
+    AlongWays = "a step left out where a way leads on",
+    EpisodeLeft = "an episode left out of the cover",
+    ThreadsSwapped = "two threads swapped",
+    Falling = "members and threads falling",
+    OtherMember = "a member replaced by another step of its thread",
+    TwoMembers = "a thread replaced by one with another member",
+    EndOff = "the report's end one too high",
+    CountOff = "the report's count of words one too low",
+    BehindReport = "the word behind the report changed",
+    BehindLoop = "the word behind the loop changed",
+    WorkLeft = "the last of 16,384 work words not zero",
+    WorkFirstLeft = "the first work word as it was",
+    WorkBehind = "work words behind the 16,384 zero",
+    OutsideOutput = "the word behind the lent output changed",
+    OutsideWork = "the word in front of the work buffer changed",
+    RefusalWrites = "refusal 12 writes to the output",
+    RefusalClears = "refusal 11 clears the work buffer",
+    ElevenTooMany = "11 with words enough",
+    TwelveFirst = "question 12 before question 11",
+    TwelveLength = "12 with the buffer's length as its place",
+    LogChanged = "a word of the log changed",
+    LoopTurned = "a loop not from its smallest episode",
+    LoopOpen = "a loop without its last episode",
+    LoopLonger = "a loop with the first episode again at its end",
+    LoopPlace = "13 with a place one too high",
+    CopyRepeats = "a link twice in the copy",
+    CopyFalling = "two to words of the copy the wrong way round",
+    CopyAsIs = "the log as it is for a copy",
+    CopyNoLoops = "links of an episode to itself left out of the copy",
+    CopyHead = "the copy with 200 episodes",
+    CopyCount = "the copy's count of words one too high",
+    CopyNeed = "11 for a copy with repeats counted once",
+    BehindCopy = "the word behind the copy changed",
+    StretchShort = "a thread's stretch one short",
+    StretchHead = "the thread word in the stretch",
+    NextThread = "thread i + 1 for thread i",
+    SeventeenForSixteen = "17 for 16",
+    SixteenForEmpty = "16 for the report of width 0",
+    LastThread = "the last thread where there is no thread i",
+    HalfNumber = "i cut to 32 bits",
+    WordsBehind = "words behind a report's end let through",
+    LayoutUnread = "a damaged report's thread given all the same",
+    RefusedStretch = "a stretch that begins at 1 with a refusal",
+    ReportChanged = "a thread call that changes the report",
+    Panics = "a call that panics",
+}
+
+pub struct Faulty(pub Fault);
+
+impl Faulty {
+    /// Faults of the reading, in every service that reads a log.
+    fn refusal(&self, log: &[u32], number: u32, place: usize) -> (u32, usize) {
+        let n = log.first().map_or(0, |&head| self::number(head));
+        match self.0 {
+            Fault::PlaceOff if (4..=10).contains(&number) => (number, place + 1),
+            Fault::SevenBeforeSix if number == 6 && self::number(log[place]) >= n => (7, place),
+            Fault::EightEarly if in_order(log).is_ok_and(|read| read.1 == 4_096) => (8, log.len() - 2),
+            Fault::RefusesAll if number == 0 => (10, log.len() - 1),
+            Fault::PassingRefused if in_order(log).is_ok_and(|read| read.0 == 200) => (3, 0),
+            _ => (number, place),
+        }
+    }
+
+    /// Faults in the buffers of a call that was refused or not.
+    fn buffers(&self, answer: Answer, log: &mut Lent, out: &mut Lent, work: &mut Lent) {
+        let written = if matches!(answer.number, 0 | 13) { WORK } else { 0 };
+        match self.0 {
+            Fault::WorkLeft if written > 0 => work.lent_mut()[WORK - 1] = 1,
+            Fault::WorkFirstLeft if written > 0 => work.lent_mut()[0] = work.before()[0],
+            Fault::WorkBehind if written > 0 => work.lent_mut()[WORK..].fill(0),
+            Fault::OutsideOutput => changed(out.with_outside(), 16),
+            Fault::OutsideWork => work.with_outside()[15] ^= 1,
+            Fault::RefusalWrites if answer.number == 12 => changed(out.lent_mut(), 1),
+            Fault::RefusalClears if answer.number == 11 => work.lent_mut().fill(0),
+            Fault::LogChanged => changed(log.lent_mut(), 1),
+            _ => {}
+        }
+    }
+}
+
+/// Changes the word that stands `from_end` words before the end, where there is one.
+fn changed(words: &mut [u32], from_end: usize) {
+    if from_end <= words.len() {
+        let place = words.len() - from_end;
+        words[place] ^= 1;
+    }
+}
+
+/// Changes the word at `place`, where there is one.
+fn change_at(words: &mut [u32], place: usize) {
+    if let Some(word) = words.get_mut(place) {
+        *word ^= 1;
+    }
+}
+
+fn shown_words(shown: &Shown) -> Vec<u32> {
+    let mut words = vec![word(WIDTH, shown.width)];
+    words.extend(shown.apart.iter().map(|&member| word(APART, member)));
+    for thread in &shown.threads {
+        words.push(word(THREAD, thread.len()));
+        words.extend(thread.iter().map(|&step| word(STEP, step)));
+    }
+    words.push(word(END, words.len()));
+    words
+}
+
+/// Puts other words at the beginning of the output, as if the library had written them.
+fn rewrite(out: &mut Lent, written: usize, words: &[u32]) -> bool {
+    if words.len() > out.len() {
+        return false;
+    }
+    let before = out.before()[..written].to_vec();
+    out.lent_mut()[..written].copy_from_slice(&before);
+    out.lent_mut()[..words.len()].copy_from_slice(words);
+    true
+}
+
+/// The log with every link turned round.
+fn turned(graph: &Graph) -> Vec<u32> {
+    let mut words = vec![word(HEAD, graph.n)];
+    for &(from, to) in &graph.links {
+        words.extend([word(FROM, to), word(TO, from)]);
+    }
+    words.push(word(END, graph.links.len()));
+    words
+}
+
+/// The largest set of at most ten episodes of which no two are linked.
+fn unlinked(graph: &Graph) -> Option<Vec<usize>> {
+    if graph.n > 10 {
+        return None;
+    }
+    let holds = |set: u32, v: usize| set >> v & 1 == 1;
+    let free = |set: &u32| graph.links.iter().all(|&(from, to)| !(holds(*set, from) && holds(*set, to)));
+    let largest = (0..1u32 << graph.n).filter(free).max_by_key(|set| set.count_ones())?;
+    Some((0..graph.n).filter(|&v| holds(largest, v)).collect())
+}
+
+/// How many uncovered episodes the best thread from `at` holds.
+fn best(graph: &Graph, at: usize, covered: &[bool], known: &mut [Option<usize>]) -> usize {
+    if let Some(best) = known[at] {
+        return best;
+    }
+    let behind = graph.next[at].iter().map(|&to| best(graph, to, covered, known)).max().unwrap_or(0);
+    known[at] = Some(behind + usize::from(!covered[at]));
+    behind + usize::from(!covered[at])
+}
+
+/// A cover by the thread with most uncovered episodes, again and again.
+fn greedy(graph: &Graph) -> Vec<Vec<usize>> {
+    let mut covered = vec![false; graph.n];
+    let mut threads = Vec::new();
+    while covered.contains(&false) {
+        let known = &mut vec![None; graph.n];
+        let mut at = (0..graph.n).max_by_key(|&v| best(graph, v, &covered, known));
+        let mut thread = Vec::new();
+        while let Some(v) = at {
+            thread.push(v);
+            at = graph.next[v].iter().copied().max_by_key(|&to| best(graph, to, &covered, known));
+            at = at.filter(|&to| best(graph, to, &covered, known) > 0);
+        }
+        for &step in &thread {
+            covered[step] = true;
+        }
+        threads.push(thread);
+    }
+    threads
+}
+
+/// The report with a fault in its parts, or none where the fault does not apply to it.
+fn altered(fault: Fault, log: &[u32], mut shown: Shown) -> Option<Shown> {
+    let graph = Graph::of(log);
+    let k = shown.threads.len();
+    match fault {
+        Fault::OneMore => {
+            let more = (0..graph.n).find(|v| !shown.apart.contains(v))?;
+            shown.width += 1;
+            shown.apart.push(more);
+            shown.threads.push(vec![more]);
+        }
+        Fault::KindFour => shown.width += 1,
+        Fault::LeastFar => {
+            let (mut out, mut work) = (vec![0; report_need(graph.n)], vec![0; WORK]);
+            let zohapy::Outcome::Report(count) = zohapy::report(&turned(&graph), &mut out, &mut work) else { return None };
+            shown.apart = checkers::layout(&out[..count]).ok()?.apart;
+            let threads = shown.threads.clone();
+            let holding = |member: &usize| threads.iter().find(|thread| thread.contains(member)).cloned();
+            shown.threads = shown.apart.iter().map(holding).collect::<Option<_>>()?;
+        }
+        Fault::ShareNothing => {
+            let mut used = vec![false; graph.n];
+            let mut parts: Vec<Vec<usize>> = Vec::new();
+            for thread in &shown.threads {
+                let mut part = Vec::new();
+                for &step in thread {
+                    if used[step] {
+                        parts.push(std::mem::take(&mut part));
+                    } else {
+                        part.push(step);
+                    }
+                    used[step] = true;
+                }
+                parts.push(part);
+            }
+            parts.retain(|part| !part.is_empty());
+            shown.width = parts.len();
+            shown.threads = parts;
+        }
+        Fault::NoLink => {
+            let members = unlinked(&graph).filter(|members| members.len() > k)?;
+            shown.threads.resize_with(members.len(), Vec::new);
+            for (thread, &member) in shown.threads.iter_mut().zip(&members).skip(k) {
+                *thread = vec![member];
+            }
+            shown.width = members.len();
+            shown.apart = members;
+        }
+        Fault::OneThreadThenSingles => {
+            let longest = shown.threads.iter().max_by_key(|thread| thread.len())?.clone();
+            let others = (0..graph.n).filter(|v| !longest.contains(v)).map(|v| vec![v]);
+            shown.threads = std::iter::once(longest.clone()).chain(others).collect();
+            shown.width = shown.threads.len();
+        }
+        Fault::Greedy => {
+            shown.threads = greedy(&graph);
+            if shown.threads.len() == k {
+                return None;
+            }
+            shown.width = shown.threads.len();
+        }
+        Fault::OneForAll => shown = Shown { width: 0, apart: Vec::new(), threads: Vec::new() },
+        Fault::AlongWays => {
+            let skipped = |thread: &Vec<usize>| thread.windows(3).position(|steps| !graph.linked(steps[0], steps[2]));
+            let (i, at) = shown.threads.iter().enumerate().find_map(|(i, thread)| Some((i, skipped(thread)?)))?;
+            shown.threads[i].remove(at + 1);
+        }
+        Fault::EpisodeLeft => {
+            let apart = shown.apart.clone();
+            let i = shown.threads.iter().position(|thread| thread.len() > 1 && !apart.contains(&thread[0]))?;
+            shown.threads[i].remove(0);
+        }
+        Fault::ThreadsSwapped if k >= 2 => shown.threads.swap(k - 2, k - 1),
+        Fault::Falling if k >= 2 => {
+            shown.apart.reverse();
+            shown.threads.reverse();
+        }
+        Fault::OtherMember => {
+            let (i, other) = shown.threads.iter().enumerate().find_map(|(i, thread)| {
+                let other = thread.iter().find(|step| **step != shown.apart[i])?;
+                Some((i, *other))
+            })?;
+            shown.apart[i] = other;
+        }
+        Fault::TwoMembers if k >= 2 => shown.threads[0] = shown.threads[1].clone(),
+        _ => return None,
+    }
+    Some(shown)
+}
+
+/// A loop with a fault in it.
+fn altered_loop(fault: Fault, steps: &mut Vec<u32>) {
+    match fault {
+        Fault::LoopTurned => steps.rotate_left(1),
+        Fault::LoopOpen if steps.len() > 1 => drop(steps.pop()),
+        Fault::LoopLonger => steps.push(steps[0]),
+        _ => {}
+    }
+}
+
+/// A copy with a fault in it.
+fn altered_copy(fault: Fault, log: &[u32], copy: &mut Vec<u32>) {
+    let last = copy.len() - 1;
+    match fault {
+        Fault::CopyRepeats if last >= 2 => {
+            copy.insert(last, copy[last - 1]);
+            copy[last + 1] += 1;
+        }
+        Fault::CopyFalling => {
+            if let Some(place) = copy.windows(2).position(|pair| kind(pair[0]) == TO && kind(pair[1]) == TO) {
+                copy.swap(place, place + 1);
+            }
+        }
+        Fault::CopyAsIs => *copy = log.to_vec(),
+        Fault::CopyNoLoops => {
+            let graph = Graph::of(copy);
+            let others: Vec<Link> = graph.links.into_iter().filter(|link| link.0 != link.1).collect();
+            *copy = Graph::new(graph.n, others).fair_copy();
+        }
+        Fault::CopyHead => copy[0] = word(HEAD, 200),
+        _ => {}
+    }
+}
+
+impl Services for Faulty {
+    fn read(&mut self, door: Door, log: &mut Lent) -> ReadAnswer {
+        let mut answer = Library.read(door, log);
+        (answer.number, answer.place) = self.refusal(log.lent(), answer.number, answer.place);
+        let words = log.lent();
+        match self.0 {
+            Fault::EndBelieved if answer.number == 10 && kind(words[answer.place]) == END => {
+                let (episodes, links) = (number(words[0]), number(words[answer.place]));
+                answer = ReadAnswer { number: 0, place: 0, episodes, links };
+            }
+            Fault::RepeatsOnce if answer.number == 0 => answer.links = Graph::of(words).links.len(),
+            Fault::LogChanged => changed(log.lent_mut(), 1),
+            _ => {}
+        }
+        answer
+    }
+
+    fn report(&mut self, door: Door, log: &mut Lent, out: &mut Lent, work: &mut Lent) -> Answer {
+        let mut answer = Library.report(door, log, out, work);
+        assert!(self.0 != Fault::Panics || answer.number != 13, "a fault");
+        self.buffers(answer, log, out, work);
+        (answer.number, answer.value) = self.refusal(log.lent(), answer.number, answer.value);
+        let need = report_need(number(log.lent().first().copied().unwrap_or(0)));
+        match (self.0, answer.number) {
+            (Fault::EndOff, 0) => out.lent_mut()[answer.value - 1] += 1,
+            (Fault::CountOff, 0) => answer.value -= 1,
+            (Fault::NoWords, 0) => drop(rewrite(out, answer.value, &[])),
+            (Fault::BehindReport, 0) => change_at(out.lent_mut(), answer.value),
+            (Fault::BehindLoop, 13) => change_at(out.lent_mut(), answer.value + 1),
+            (Fault::LoopPlace, 13) => answer.value += 1,
+            (Fault::TwelveFirst, 11) if work.len() < WORK => answer = Answer { number: 12, value: WORK },
+            (Fault::TwelveLength, 12) => answer.value = work.len(),
+            (Fault::ElevenTooMany, 0 | 13) if out.len() == need => {
+                let (words, work_words) = (out.before().to_vec(), work.before().to_vec());
+                out.lent_mut().copy_from_slice(&words);
+                work.lent_mut().copy_from_slice(&work_words);
+                answer = Answer { number: 11, value: need + 1 };
+            }
+            (Fault::LoopTurned | Fault::LoopOpen | Fault::LoopLonger, 13) => {
+                let mut words = out.lent()[..answer.value + 1].to_vec();
+                let mut steps = words.split_off(1);
+                altered_loop(self.0, &mut steps);
+                words[0] = words[0] & !LARGEST | steps.len() as u32;
+                words.append(&mut steps);
+                if rewrite(out, answer.value + 1, &words) {
+                    answer.value = words.len() - 1;
+                }
+            }
+            (fault, 0) => {
+                let shown = checkers::layout(&out.lent()[..answer.value]);
+                if let Some(other) = shown.ok().and_then(|shown| altered(fault, log.lent(), shown)) {
+                    let words = shown_words(&other);
+                    if rewrite(out, answer.value, &words) {
+                        answer.value = words.len();
+                    }
+                }
+            }
+            _ => {}
+        }
+        answer
+    }
+
+    fn fair_copy(&mut self, door: Door, log: &mut Lent, out: &mut Lent, work: &mut Lent) -> Answer {
+        let mut answer = Library.fair_copy(door, log, out, work);
+        self.buffers(answer, log, out, work);
+        (answer.number, answer.value) = self.refusal(log.lent(), answer.number, answer.value);
+        match (self.0, answer.number) {
+            (Fault::CopyCount, 0) => answer.value += 1,
+            (Fault::BehindCopy, 0) => change_at(out.lent_mut(), answer.value),
+            (Fault::CopyNeed, 11) => answer.value = 2 + 2 * Graph::of(log.lent()).links.len(),
+            (Fault::TwelveFirst, 11) if work.len() < WORK => answer = Answer { number: 12, value: WORK },
+            (Fault::TwelveLength, 12) => answer.value = work.len(),
+            (fault, 0) => {
+                let mut copy = out.lent()[..answer.value].to_vec();
+                altered_copy(fault, log.lent(), &mut copy);
+                if rewrite(out, answer.value, &copy) {
+                    answer.value = copy.len();
+                }
+            }
+            _ => {}
+        }
+        answer
+    }
+
+    fn thread(&mut self, door: Door, report: &mut Lent, i: usize) -> ThreadAnswer {
+        let mut answer = Library.thread(door, report, i);
+        let given = |words: &[u32], i: usize| {
+            let stretch = parts(words).ok().and_then(|parts| parts.thread(i).ok());
+            stretch.map(|(start, length)| ThreadAnswer { number: 0, start, length })
+        };
+        let words = report.lent();
+        match (self.0, answer.number) {
+            (Fault::StretchShort, 0) => answer.length -= 1,
+            (Fault::StretchHead, 0) => (answer.start, answer.length) = (answer.start - 1, answer.length + 1),
+            (Fault::NextThread, 0) => answer = given(words, i + 1).unwrap_or(answer),
+            (Fault::SeventeenForSixteen, 16) => answer.number = 17,
+            (Fault::SixteenForEmpty, 17) if number(words[0]) == 0 => answer.number = 16,
+            (Fault::LastThread, 17) if number(words[0]) > 0 => {
+                answer = given(words, number(words[0]) - 1).unwrap_or(answer);
+            }
+            (Fault::HalfNumber, 17) => answer = given(words, i & u32::MAX as usize).unwrap_or(answer),
+            (Fault::WordsBehind, 16) => {
+                let end = words.iter().position(|&word| kind(word) == END);
+                answer = end.and_then(|end| given(&words[..end + 1], i)).unwrap_or(answer);
+            }
+            (Fault::LayoutUnread, 16) => {
+                let at = words.iter().position(|&word| kind(word) == THREAD);
+                if let Some(at) = at.filter(|&at| i == 0 && at + 1 < words.len()) {
+                    answer = ThreadAnswer { number: 0, start: at + 1, length: 1 };
+                }
+            }
+            (Fault::RefusedStretch, 16 | 17) => answer.start = 1,
+            (Fault::ReportChanged, 0) => changed(report.lent_mut(), 1),
+            _ => {}
+        }
+        answer
+    }
+}

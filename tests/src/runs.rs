@@ -1,0 +1,187 @@
+//! Runs: the cases and the random calls, in one or more threads; one round again; and the faults.
+
+use crate::Wanted;
+use crate::calls::Caller;
+use crate::checks::{CHECKS, Check, Checked, Disagreement, name};
+use crate::counts::{Counts, grouped};
+use crate::faults::{FAULTS, Fault, Faulty};
+use crate::random::{Random, round_seed};
+use crate::services::{Library, Services};
+use crate::{cases, disagreement, program, rounds};
+use std::panic::{AssertUnwindSafe, catch_unwind};
+use std::sync::atomic::{AtomicBool, Ordering};
+use std::time::Instant;
+
+pub const DEFAULT_CALLS: u64 = 100_000;
+/// How often everything that is counted has to be met, in a run of the default number of calls or more.
+const FLOOR: u64 = 50;
+
+/// Makes calls. A panic, as of the wrapper or of a reference that disagrees with another, is a disagreement too.
+fn guarded<S: Services>(caller: &mut Caller<S>, make: impl FnOnce(&mut Caller<S>) -> Checked<()>) -> Checked<()> {
+    let made = catch_unwind(AssertUnwindSafe(|| make(caller)));
+    made.unwrap_or_else(|_| {
+        let found = vec![(Check::Ends, "a panic, whose message stands above".to_string())];
+        Err(Box::new(Disagreement { service: "round", found, lengths: String::new(), words: caller.words().to_vec() }))
+    })
+}
+
+/// Rounds until the calls are made, or another thread has found something.
+fn random_calls(services: impl Services, calls: u64, seed: u64, thread: usize, stop: &AtomicBool) -> (Counts, bool) {
+    let mut caller = Caller::new(services);
+    let mut index = 0;
+    while caller.counts.calls < calls && !stop.load(Ordering::Relaxed) {
+        let round = round_seed(seed, thread, index);
+        if let Err(found) = guarded(&mut caller, |caller| rounds::round(caller, round)) {
+            stop.store(true, Ordering::Relaxed);
+            disagreement::show(&found, &format!("seed {seed} thread {thread} round {round}"));
+            return (caller.counts, false);
+        }
+        index += 1;
+    }
+    (caller.counts, true)
+}
+
+/// The cases, then the random calls, then the table.
+pub fn checks(wanted: &Wanted) -> bool {
+    let mut caller = Caller::new(Library);
+    if let Err(found) = guarded(&mut caller, cases::all) {
+        disagreement::show(&found, "a case");
+        return false;
+    }
+    println!("cases: {} calls, all as worked out", grouped(caller.counts.calls));
+
+    let begun = Instant::now();
+    let stop = AtomicBool::new(false);
+    let threads = wanted.threads as u64;
+    let results: Vec<(Counts, bool)> = std::thread::scope(|scope| {
+        let share = |thread: u64| wanted.calls / threads + u64::from(thread < wanted.calls % threads);
+        let stop = &stop;
+        let start = |thread: u64| scope.spawn(move || random_calls(Library, share(thread), wanted.seed, thread as usize, stop));
+        let running: Vec<_> = (0..threads).map(start).collect();
+        running.into_iter().map(|thread| thread.join().expect("a thread ends")).collect()
+    });
+    let seconds = begun.elapsed().as_secs_f64();
+    let mut counts = Counts::new();
+    for (part, _) in &results {
+        counts.add(part);
+    }
+    if !results.iter().all(|result| result.1) {
+        println!("failed after {} calls", grouped(counts.calls));
+        return false;
+    }
+    counts.print();
+    println!(
+        "{} calls in {} rounds, seed {}, threads {}: no disagreement. {seconds:.1} seconds, {} calls a second",
+        grouped(counts.calls),
+        grouped(counts.rounds),
+        wanted.seed,
+        wanted.threads,
+        grouped((counts.calls as f64 / seconds) as u64),
+    );
+    if wanted.calls < DEFAULT_CALLS {
+        println!("fewer than {} calls: it is not asked how often everything was met", grouped(DEFAULT_CALLS));
+        return true;
+    }
+    let missing = counts.missing(FLOOR);
+    for missing in &missing {
+        println!("met fewer than {FLOOR} times: {missing}");
+    }
+    if missing.is_empty() {
+        println!("everything that is counted was met at least {FLOOR} times");
+    }
+    missing.is_empty()
+}
+
+/// One round again.
+pub fn one_round(seed: u64) -> bool {
+    let mut caller = Caller::new(Library);
+    match guarded(&mut caller, |caller| rounds::round(caller, seed)) {
+        Ok(()) => {
+            println!("round {seed}: {} calls, no disagreement", caller.counts.calls);
+            true
+        }
+        Err(found) => {
+            disagreement::show(&found, &format!("round {seed}"));
+            false
+        }
+    }
+}
+
+/// Calls with one fault, so that it can be seen how a disagreement is shown.
+pub fn one_fault(index: usize) -> bool {
+    let Some(&(fault, what)) = FAULTS.get(index) else {
+        println!("there are {} faults, from 0", FAULTS.len());
+        return false;
+    };
+    println!("a deliberate fault: {what}");
+    random_calls(Faulty(fault), DEFAULT_CALLS, 1, 0, &AtomicBool::new(false)).1
+}
+
+/// The checks that catch a fault within the default number of calls, and after how many.
+fn random_catch(fault: Fault) -> Option<(u64, Vec<Check>)> {
+    let mut caller = Caller::new(Faulty(fault));
+    for index in 0.. {
+        if let Err(found) = guarded(&mut caller, |caller| rounds::round(caller, round_seed(1, 0, index))) {
+            return Some((caller.counts.calls, names(&found)));
+        }
+        if caller.counts.calls >= DEFAULT_CALLS {
+            break;
+        }
+    }
+    None
+}
+
+fn names(found: &Disagreement) -> Vec<Check> {
+    found.found.iter().map(|found| found.0).collect()
+}
+
+/// The properties alone, and the worked cases alone: without the reference.
+fn bare_catch(fault: Fault) -> Vec<Check> {
+    let mut caller = Caller::new(Faulty(fault));
+    caller.bare = true;
+    let mut caught = Vec::new();
+    for seed in 0..200 {
+        if let Err(found) = guarded(&mut caller, |caller| rounds::properties(caller, &mut Random::new(seed))) {
+            caught.extend(names(&found));
+        }
+    }
+    if let Err(found) = guarded(&mut caller, cases::all) {
+        caught.extend(names(&found));
+    }
+    CHECKS.iter().map(|row| row.0).filter(|check| caught.contains(check)).collect()
+}
+
+/// Runs every fault. Each must be caught, and each check must catch at least one.
+pub fn faults() -> bool {
+    let mut good = true;
+    let mut caught: Vec<Check> = Vec::new();
+    let listed = |checks: &[Check]| checks.iter().map(|&check| name(check)).collect::<Vec<_>>().join(", ");
+    // The message of a panic that is one of the faults is not printed.
+    std::panic::set_hook(Box::new(|_| {}));
+    println!("number | fault | calls | caught by | by properties and worked cases alone");
+    for (index, &(fault, what)) in FAULTS.iter().enumerate() {
+        let alone = bare_catch(fault);
+        match random_catch(fault) {
+            Some((calls, checks)) => {
+                let alone_text = if alone.is_empty() { "-".to_string() } else { listed(&alone) };
+                println!("{index} | {what} | {calls} | {} | {alone_text}", listed(&checks));
+                caught.extend(checks);
+            }
+            None => {
+                println!("{index} | {what} | NOT CAUGHT in {} calls | - | -", grouped(DEFAULT_CALLS));
+                good = false;
+            }
+        }
+        caught.extend(alone);
+    }
+    for (check, name, _) in CHECKS.iter().filter(|row| !caught.contains(&row.0)) {
+        println!("NO FAULT is caught by the check {name} ({check:?})");
+        good = false;
+    }
+    drop(std::panic::take_hook());
+    good &= program::faults();
+    if good {
+        println!("{} faults, each caught; {} checks, each of which caught a fault", FAULTS.len(), CHECKS.len());
+    }
+    good
+}
