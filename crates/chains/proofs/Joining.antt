@@ -1,17 +1,17 @@
 -- From single items to as few chains as can be, one chain fewer at a time.
-use mathlib.Core.Path.{_≡_}
+use mathlib.Core.Path.{_≡_, sym}
 use mathlib.Core.Bool.{true, false}
 use mathlib.Core.Logic.{⊎-elim}
 use mathlib.Core.List.{List}
-use Prim.Native.Nat.{ℕ, _+_, _-_, _≤_, _<_}
+use Prim.Native.Nat.{ℕ, _+_, _-_, _<_}
 use native.Mathlib.Omega.{arith}
 use lib.ListN.{getD}
 use Rattle.bits.specs.Bits.{sum}
-use Rattle.bits.specs.Work.{nextAt, prevAt, viaAt, Outside, noneAt}
+use Rattle.bits.specs.Work.{nextAt, Outside, noneAt}
 use Rattle.chains.specs.Items.{Matching}
-use Rattle.chains.specs.State.{tables, Pairs, Sized, ShrunkIn, JoinedIn}
+use Rattle.chains.specs.State.{tables, Pairs, Sized, ShrunkIn, PairedIn, JoinedIn}
 use Rattle.chains.proofs.Counts.{shrunk-fewer}
-use Rattle.bits.proofs.Frames.{outside-none, outside-then, outside-wider}
+use Rattle.bits.proofs.Frames.{outside-then, outside-wider}
 use Rattle.chains.proofs.Relations.{exhausted-within}
 use Rattle.chains.proofs.Showing.{matching-kept, same-links, sized-kept, forth, back}
 
@@ -26,28 +26,20 @@ pub record Joining (w₀ w : List ℕ) (base m : ℕ) : Type 0 where
 abbrev pub chainCount : List ℕ → ℕ → ℕ
 chainCount w m = sum (λ a. 1 - getD w (nextAt + a) 0) m
 
-pub joining-start : (w : List ℕ) (base m : ℕ) → Sized w base m → ((i : ℕ) → nextAt ≤ i → i < viaAt → getD w i 0 ≡ 0) → Joining w w base m
-joining-start w base m z none =
+-- after the first pairs
+pub joining-start : (w w′ : List ℕ) (base m : ℕ) → Sized w base m → PairedIn w w′ base m m → Joining w w′ base m
+joining-start w w′ base m z p =
     record {
-      sized = z;
-      outside = outside-none nextAt noneAt w;
-      matching =
-          record {
-            next-le = λ a al. let e = next-none a al in omega arith;
-            prev-le = λ b bl. let e = prev-none b bl in omega arith;
-            there = λ a b al bl h. let e = next-none a al in absurd (omega arith);
-            back = λ a b al bl h. let e = prev-none b bl in absurd (omega arith);
-          };
-      pairs = λ a b al bl h. let e = next-none a al in let bad : ⊥ = omega arith in absurd bad;
+      sized = sized-kept (p .outside .same-length) z;
+      outside = p .outside;
+      matching = p .pairing .matching;
+      pairs = p .pairing .pairs;
     }
-  where
-    next-none : (a : ℕ) → a < m → getD w (nextAt + a) 0 ≡ 0
-    next-none a al = none (nextAt + a) (omega arith) (omega (arith, z .items))
 
-    prev-none : (b : ℕ) → b < m → getD w (prevAt + b) 0 ≡ 0
-    prev-none b bl = none (prevAt + b) (omega arith) (omega (arith, z .items))
+module _ (w₀ w w′ : List ℕ) (base m : ℕ) (s : Joining w₀ w base m) where
+  z : Sized w₀ base m
+  z = sized-kept (sym (s .outside .same-length)) (s .sized)
 
-module _ (w₀ w w′ : List ℕ) (base m : ℕ) (z : Sized w₀ base m) (s : Joining w₀ w base m) where
   -- one chain fewer
   pub joining-more : ShrunkIn w w′ base m true → Joining w₀ w′ base m
   joining-more (o, k) =

@@ -15,5 +15,6 @@ pub mod Preparing
 pub mod Showing
 pub mod Looking
 pub mod Shrinking
+pub mod Pairs
 pub mod Joining
 pub mod Looping

@@ -7,10 +7,9 @@ use native.Mathlib.Decide.{ℕ-discrete}
 use native.Mathlib.Omega.{arith}
 use lib.ListN.{length, set}
 use lib.Seq.{getD-set-same, getD-set-other}
-use Rattle.bits.specs.Bits.{bit}
 use Rattle.bits.specs.Work.{nextAt, queueAt, seenAt, usedWords, Outside, noneAt}
 use Rattle.bits.proofs.Rows.{bits-zero}
-use Rattle.chains.specs.State.{tables, PreparedIn}
+use Rattle.chains.specs.State.{tables, UnseenIn, PreparedIn}
 use Rattle.bits.proofs.Frames.{outside-none, outside-then, outside-wider, outside-more, bit-behind, Cleared}
 
 -- of the items before `a` those that end a chain are in the queue, rising
@@ -99,10 +98,10 @@ module _ (m : ℕ) (w₀ w : List ℕ) (tail a : ℕ) (few : m < 256) (s : Filli
           (p, omega arith, old p (λ i. absurd (omega arith)) ∙ g)
 
   -- every item has been looked at; `w₁` is what the words were at first
-  pub filling-done : (w₁ : List ℕ) → Outside seenAt noneAt w₁ w₀ → ((b : ℕ) → b < 256 → bit w₀ seenAt b ≡ 0) → m ≤ a → PreparedIn w₁ w m tail
-  filling-done w₁ o zero h =
+  pub filling-done : (w₁ : List ℕ) → UnseenIn w₁ w₀ → m ≤ a → PreparedIn w₁ w m tail
+  filling-done w₁ u h =
       record {
-        outside = outside-then (outside-wider (omega arith) (omega arith) o) (outside-wider (omega arith) (omega arith) (s .outside));
+        outside = outside-then (outside-wider (omega arith) (omega arith) (u .outside)) (outside-wider (omega arith) (omega arith) (s .outside));
         prepared =
             record {
               tail-le = omega arith;
@@ -110,12 +109,14 @@ module _ (m : ℕ) (w₀ w : List ℕ) (tail a : ℕ) (few : m < 256) (s : Filli
               rising = s .rising;
               ending = s .ending;
               all = λ x k. s .all x (omega arith);
-              unseen = λ b k. bit-behind (s .outside) seenAt b (omega arith) ∙ zero b (omega arith);
+              unseen = λ b k. bit-behind (s .outside) seenAt b (omega arith) ∙ u .unseen b (omega arith);
             };
       }
 
--- ---- a part of a list, made zero
-
 -- the row of what is seen, made zero
-pub cleared-unseen : (w w′ : List ℕ) → Cleared seenAt noneAt w w′ → (b : ℕ) → b < 256 → bit w′ seenAt b ≡ 0
-cleared-unseen w w′ c b h = bits-zero w′ seenAt b (c .zeros (seenAt + b / 32) (omega arith) (omega arith))
+pub cleared-unseen : (w w′ : List ℕ) → Cleared seenAt noneAt w w′ → UnseenIn w w′
+cleared-unseen w w′ c =
+    record {
+      outside = c .outside;
+      unseen = λ b h. bits-zero w′ seenAt b (c .zeros (seenAt + b / 32) (omega arith) (omega arith));
+    }

@@ -7,6 +7,7 @@ use Rattle.chains.specs.Items.{
   Reached,
   from-end,
   from-next,
+  Pairing,
   Exhausted,
   SeenFrom,
   Searching,
@@ -24,6 +25,15 @@ module _ {m : ℕ} {R R′ : ℕ → ℕ → Type 0} (to : Within m R R′) wher
   reached-within : {next : ℕ → ℕ} {b : ℕ} → Reached m R next b → Reached m R′ next b
   reached-within (from-end {a = a} {b = b} al bl e r) = from-end al bl e (to a b al bl r)
   reached-within (from-next {a = a} {b = b} {c = c} al bl cl e k r) = from-next al bl cl e (reached-within k) (to a b al bl r)
+
+  pub pairing-within : {t : Tables} {a : ℕ} → Pairing m R t a → Pairing m R′ t a
+  pairing-within s =
+      record {
+        matching = s .matching;
+        pairs = λ x y xl yl h. to x y xl yl (s .pairs x y xl yl h);
+        next-none = s .next-none;
+        prev-none = s .prev-none;
+      }
 
   pub exhausted-within : {t : Tables} → Within m R′ R → Exhausted m R t → Exhausted m R′ t
   exhausted-within back x =

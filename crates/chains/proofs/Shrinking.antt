@@ -62,7 +62,7 @@ module _ (w₁ w : List ℕ) (base m tail old b : ℕ) (s : Going w₁ w base m 
 
   module _ (w′ : List ℕ) (old′ : ℕ) (k : FlippedIn w w′ b old′) where
     flipped : Flipped m (tables w) (tables w′) (tables w₁ .queue p) b
-    flipped = rw place at (flipped-fewer {n = m} (omega (arith, s .items)) (k .flipped))
+    flipped = rw place at (flipped-fewer {n = m} (omega (arith, s .items)) (k .put .flipped))
 
     before : old′ ≡ tables w .next (tables w₁ .queue p)
     before = k .before ∙ ap (λ (x : ℕ). tables w .next x) place
@@ -71,8 +71,8 @@ module _ (w₁ w : List ℕ) (base m tail old b : ℕ) (s : Going w₁ w base m 
     going-more =
         record {
           items = s .items;
-          long = omega (arith, k .outside .same-length, s .long);
-          outside = outside-then (s .outside) (k .outside);
+          long = omega (arith, k .put .outside .same-length, s .long);
+          outside = outside-then (s .outside) (k .put .outside);
           tail-le = s .tail-le;
           trail = s .trail;
           on = λ c i. flip-on p (s .trail) f (f .from .2) flipped (sym before ∙ i) .0;

@@ -10,8 +10,8 @@ use lib.Seq.{getD-set-same, getD-set-other}
 use Rattle.bits.specs.Bits.{bit, BitSet}
 use Rattle.bits.specs.Work.{nextAt, prevAt, viaAt, queueAt, seenAt, usedWords, Outside, noneAt}
 use Rattle.chains.specs.Items.{Flipped}
-use Rattle.chains.specs.State.{tables, SawIn, SelvesIn}
-use Rattle.bits.proofs.Frames.{outside-none, outside-set, outside-more, bit-stored}
+use Rattle.chains.specs.State.{tables, PutIn, SawIn, SelvesIn}
+use Rattle.bits.proofs.Frames.{outside-none, outside-then, outside-set, outside-more, bit-stored}
 
 -- ---- an item is seen
 
@@ -100,17 +100,18 @@ module _ (w : List ℕ) (a b : ℕ) (fits : usedWords ≤ length w) (from : a < 
   abbrev pairWords : List ℕ
   pairWords = set (set w (nextAt + a) (b + 1)) (prevAt + b) (a + 1)
 
-  pub paired-outside : Outside nextAt viaAt w pairWords
-  paired-outside =
-      outside-more (prevAt + b) (a + 1) (omega arith) (omega arith) (outside-set w (nextAt + a) (b + 1) (omega arith) (omega arith))
-
-  pub paired : Flipped 256 (tables w) (tables pairWords) a b
-  paired =
+  pub put : PutIn w pairWords a b
+  put =
       record {
-        next-here = second (nextAt + a) (λ e. absurd (omega arith)) ∙ getD-set-same w (nextAt + a) (b + 1) 0 (omega arith);
-        next-other = λ c h ne. second (nextAt + c) (λ e. absurd (omega arith)) ∙ first (nextAt + c) (λ e. ne (omega arith));
-        prev-here = getD-set-same (set w (nextAt + a) (b + 1)) (prevAt + b) (a + 1) 0 (simp length-set (omega arith));
-        prev-other = λ c h ne. second (prevAt + c) (λ e. ne (omega arith)) ∙ first (prevAt + c) (λ e. absurd (omega arith));
+        outside =
+            outside-more (prevAt + b) (a + 1) (omega arith) (omega arith) (outside-set w (nextAt + a) (b + 1) (omega arith) (omega arith));
+        flipped =
+            record {
+              next-here = second (nextAt + a) (λ e. absurd (omega arith)) ∙ getD-set-same w (nextAt + a) (b + 1) 0 (omega arith);
+              next-other = λ c h ne. second (nextAt + c) (λ e. absurd (omega arith)) ∙ first (nextAt + c) (λ e. ne (omega arith));
+              prev-here = getD-set-same (set w (nextAt + a) (b + 1)) (prevAt + b) (a + 1) 0 (simp length-set (omega arith));
+              prev-other = λ c h ne. second (prevAt + c) (λ e. ne (omega arith)) ∙ first (prevAt + c) (λ e. absurd (omega arith));
+            };
       }
     where
       first : (i : ℕ) → i ≢ nextAt + a → getD (set w (nextAt + a) (b + 1)) i 0 ≡ getD w i 0
@@ -160,24 +161,19 @@ module _ (m v : ℕ) (w₀ w : List ℕ) (a : ℕ) (few : m < 256) (below : v < 
           go (yes f) = absurd (ne (f ∙ e))
           go (no f) = omega arith
 
-  pub selving-more : usedWords ≤ length w₀ → a < m → a ≢ v → Selving m v w₀ (set (set w (nextAt + a) (a + 1)) (prevAt + a) (a + 1)) (a + 1)
-  selving-more fits h ne =
+  pub selving-more : (w′ : List ℕ) → PutIn w w′ a a → a < m → a ≢ v → Selving m v w₀ w′ (a + 1)
+  selving-more w′ put-in h ne =
       record {
         up-to = omega arith;
-        outside =
-            outside-more (prevAt + a) (a + 1) (omega arith) (omega arith)
-            (outside-more (nextAt + a) (a + 1) (omega arith) (omega arith) (s .outside));
+        outside = outside-then (s .outside) (put-in .outside);
         next-end = p .next-other v (omega arith) (λ e. ne (sym e)) ∙ s .next-end;
         prev-end = p .prev-other v (omega arith) (λ e. ne (sym e)) ∙ s .prev-end;
         next-self = λ x l away. next x l away (ℕ-discrete x a);
         prev-self = λ x l away. prev x l away (ℕ-discrete x a);
       }
     where
-      w′ : List ℕ
-      w′ = set (set w (nextAt + a) (a + 1)) (prevAt + a) (a + 1)
-
       p : Flipped 256 (tables w) (tables w′) a a
-      p = paired w a a (omega (arith, s .outside .same-length)) (omega arith) (omega arith)
+      p = put-in .flipped
 
       next : (x : ℕ) → x < a + 1 → x ≢ v → Dec (x ≡ a) → tables w′ .next x ≡ x + 1
       next x l away (yes e) = rw e (p .next-here)

@@ -25,6 +25,14 @@ pub record Matching (m : ℕ) (t : Tables) : Type 0 where
   pub there : (a b : ℕ) → a < m → b < m → t .next a ≡ b + 1 → t .prev b ≡ a + 1
   pub back : (a b : ℕ) → a < m → b < m → t .prev b ≡ a + 1 → t .next a ≡ b + 1
 
+-- The state of a pass that pairs items as they come: what stands behind an item the item has in R, the items from `a` on have none behind
+-- them yet, and what is not seen has none before it.
+pub record Pairing (m : ℕ) (R : ℕ → ℕ → Type 0) (t : Tables) (a : ℕ) : Type 0 where
+  pub matching : Matching m t
+  pub pairs : (x y : ℕ) → x < m → y < m → t .next x ≡ y + 1 → R x y
+  pub next-none : (x : ℕ) → a ≤ x → x < m → t .next x ≡ 0
+  pub prev-none : (y : ℕ) → y < m → t .seen y ≡ 0 → t .prev y ≡ 0
+
 -- from `a` one comes to `b` along the chain, in no step or more
 pub data Steps (next : ℕ → ℕ) : ℕ → ℕ → Type 0 where
   stay : {a : ℕ} → Steps next a a

@@ -7,7 +7,7 @@ use lib.ListN.{length, getD}
 use Rattle.paths.specs.Graph.{Graph, EndsBelow, Link, Way}
 use Rattle.bits.specs.Bits.{bit}
 use Rattle.bits.specs.Work.{linksAt, nextAt, prevAt, viaAt, queueAt, seenAt, usedWords, Matrix, Outside, noneAt, matrixWords}
-use Rattle.chains.specs.Items.{Tables, Matching, Exhausted, Searching, Prepared, Saw, Trail, Flipping, Flipped, Shrunk}
+use Rattle.chains.specs.Items.{Tables, Matching, Pairing, Exhausted, Searching, Prepared, Saw, Trail, Flipping, Flipped, Shrunk}
 use Rattle.chains.specs.Cycles.{Selves}
 
 -- the tables in the work words
@@ -30,6 +30,16 @@ pub record Sized (w : List ℕ) (base m : ℕ) : Type 0 where
   pub long : usedWords ≤ length w
   pub matrix : base + matrixWords ≤ nextAt
   pub items : m < 256
+
+-- nothing is seen
+pub record UnseenIn (w w′ : List ℕ) : Type 0 where
+  pub outside : Outside seenAt noneAt w w′
+  pub unseen : (b : ℕ) → b < 256 → tables w′ .seen b ≡ 0
+
+-- `b` is put behind `a`
+pub record PutIn (w w′ : List ℕ) (a b : ℕ) : Type 0 where
+  pub outside : Outside nextAt viaAt w w′
+  pub flipped : Flipped 256 (tables w) (tables w′) a b
 
 -- the queue and what is seen, before a search
 pub record PreparedIn (w w′ : List ℕ) (m tail : ℕ) : Type 0 where
@@ -63,14 +73,18 @@ FlipAsked w b =
 
 -- `b` is put behind the item from which it was seen; `old` is, plus one, what stood behind that
 pub record FlippedIn (w w′ : List ℕ) (b old : ℕ) : Type 0 where
-  pub outside : Outside nextAt viaAt w w′
-  pub flipped : Flipped 256 (tables w) (tables w′) (tables w .queue (tables w .via b - 1)) b
+  pub put : PutIn w w′ (tables w .queue (tables w .via b - 1)) b
   pub before : old ≡ tables w .next (tables w .queue (tables w .via b - 1))
 
 -- One chain fewer, or the search is exhausted.
 abbrev pub ShrunkIn : List ℕ → List ℕ → ℕ → ℕ → Bool → Type 0
 ShrunkIn w w′ base m true = Outside nextAt noneAt w w′ × Shrunk m (Pairs base w) (tables w) (tables w′)
 ShrunkIn w w′ base m false = Outside viaAt noneAt w w′ × Exhausted m (Pairs base w) (tables w′)
+
+-- A pass that pairs items as they come is at `a`.
+pub record PairedIn (w w′ : List ℕ) (base m a : ℕ) : Type 0 where
+  pub outside : Outside nextAt noneAt w w′
+  pub pairing : Pairing m (Pairs base w) (tables w′) a
 
 -- As few chains as can be: what stands behind an item the item has in the matrix, and the search is exhausted.
 pub record JoinedIn (w w′ : List ℕ) (base m : ℕ) : Type 0 where

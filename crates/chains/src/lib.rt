@@ -1,11 +1,11 @@
-// Chains of items in the work words: an augmenting search joins two chains, until none is found.
+// Chains of items in the work words: first pairs as they come, then an augmenting search joins two chains, until none is found.
 ghost use mathlib.Core.Path.{_≡_};
 ghost use Prim.Native.Nat.{ℕ, _+_, _-_, _<_, _≤_};
 ghost use lib.ListN.{length, getD};
 ghost use Rattle.bits.specs.Work.{nextAt, viaAt, usedWords};
-ghost use Rattle.chains.specs.Items.{Matching, Searching};
-ghost use Rattle.chains.specs.State.{tables, Pairs, Sized, PreparedIn, SawIn, ShownIn, SearchedIn};
-ghost use Rattle.chains.specs.State.{FlipAsked, FlippedIn, ShrunkIn, JoinedIn, SelvesIn, LoopedIn};
+ghost use Rattle.chains.specs.Items.{Matching, Pairing, Searching};
+ghost use Rattle.chains.specs.State.{tables, Pairs, Sized, UnseenIn, PutIn, PreparedIn, SawIn, ShownIn, SearchedIn};
+ghost use Rattle.chains.specs.State.{FlipAsked, FlippedIn, ShrunkIn, PairedIn, JoinedIn, SelvesIn, LoopedIn};
 use bits::LINKS;
 use bits::NEXT;
 use bits::NONE;
@@ -14,14 +14,31 @@ use bits::QUEUE;
 use bits::SEEN;
 use bits::VIA;
 
+// Makes nothing seen.
+fn clear_seen(w: &mut [u32])
+    requires { ⌜ usedWords ≤ length (now w) ⌝ }
+    ensures { λ _. ⌜ UnseenIn (now (w .entry)) (now (w .exit)) ⌝ }
+{
+    let from = SEEN;
+    let to = NONE;
+    bits::clear(&mut w[from..to]);
+}
+
+// Puts `b` behind `a`.
+fn put_behind(w: &mut [u32], a: usize, b: usize)
+    requires { ⌜ (usedWords ≤ length (now w)) × (a < 256) × (b < 256) ⌝ }
+    ensures { λ _. ⌜ PutIn (now (w .entry)) (now (w .exit)) a b ⌝ }
+{
+    w[NEXT + a] = (b + 1) as u32;
+    w[PREV + b] = (a + 1) as u32;
+}
+
 // Puts the items that end a chain into the queue, and gives their count. Nothing is seen.
 fn prepare(w: &mut [u32], m: usize) -> usize
     requires { ⌜ (usedWords ≤ length (now w)) × (m < 256) ⌝ }
     ensures { λ r. ⌜ PreparedIn (now (w .entry)) (now (w .exit)) m r ⌝ }
 {
-    let from = SEEN;
-    let to = NONE;
-    bits::clear(&mut w[from..to]);
+    clear_seen(w);
     let mut tail = 0;
     let mut a = 0;
     while a < m {
@@ -100,8 +117,7 @@ fn flip(w: &mut [u32], b: usize) -> usize
     let place = w[VIA + b] as usize - 1;
     let a = w[QUEUE + place] as usize;
     let old = w[NEXT + a] as usize;
-    w[NEXT + a] = (b + 1) as u32;
-    w[PREV + b] = (a + 1) as u32;
+    put_behind(w, a, b);
     old
 }
 
@@ -121,11 +137,38 @@ fn shrink(w: &mut [u32], base: usize, m: usize) -> bool
     true
 }
 
+// Puts behind `a` the first item that it has in the matrix at `base` and that stands behind none yet, if there is one. What stands behind
+// an item is marked as seen.
+fn pair(w: &mut [u32], base: usize, m: usize, a: usize)
+    requires { ⌜ Sized (now w) base m × Pairing m (Pairs base (now w)) (tables (now w)) a × (a < m) ⌝ }
+    ensures { λ _. ⌜ PairedIn (now (w .entry)) (now (w .exit)) base m (a + 1) ⌝ }
+{
+    let b = bits::next_new(w, base + 8 * a, SEEN, 0);
+    if b < m {
+        bits::set_bit(w, SEEN, b);
+        put_behind(w, a, b);
+    }
+}
+
+// From single items to pairs, as they come.
+fn first_pairs(w: &mut [u32], base: usize, m: usize)
+    requires { ⌜ Sized (now w) base m × ((i : ℕ) → nextAt ≤ i → i < viaAt → getD (now w) i 0 ≡ 0) ⌝ }
+    ensures { λ _. ⌜ PairedIn (now (w .entry)) (now (w .exit)) base m m ⌝ }
+{
+    clear_seen(w);
+    let mut a = 0;
+    while a < m {
+        pair(w, base, m, a);
+        a += 1;
+    }
+}
+
 // From single items to as few chains as can be.
 pub fn join(w: &mut [u32], base: usize, m: usize)
     requires { ⌜ Sized (now w) base m × ((i : ℕ) → nextAt ≤ i → i < viaAt → getD (now w) i 0 ≡ 0) ⌝ }
     ensures { λ _. ⌜ JoinedIn (now (w .entry)) (now (w .exit)) base m ⌝ }
 {
+    first_pairs(w, base, m);
     while shrink(w, base, m) {}
 }
 
@@ -137,8 +180,7 @@ fn behind_itself(w: &mut [u32], m: usize, v: usize)
     let mut a = 0;
     while a < m {
         if a != v {
-            w[NEXT + a] = (a + 1) as u32;
-            w[PREV + a] = (a + 1) as u32;
+            put_behind(w, a, a);
         }
         a += 1;
     }

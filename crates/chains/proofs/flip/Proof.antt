@@ -1,12 +1,9 @@
--- `chains::flip` meets its contract.
-use mathlib.Core.Path.{refl}
-use Prim.Native.Nat.{_+_, _-_}
+-- `chains::flip` meets its contract. Assumes nothing.
 use borrow.Author.Needs.{needs}
+use Prim.Native.Nat.{_+_, _-_}
 use native.Mathlib.Omega.{arith}
-use lib.ListN.{length-set}
 use Rattle.bits.specs.Work.{nextAt}
 use Rattle.chains.specs.State.{tables}
-use Rattle.chains.proofs.Words.{paired-outside, paired}
 use Rattle.chains.proofs.flip.Statement.{statement}
 use Rattle.chains.proofs.flip.Tie as tie
 
@@ -48,53 +45,18 @@ slice-read-old c = search needs
 
 cast-old : tie.Need-cast-old
 cast-old c =
-    let a = c .before .before .before .args in
+    let a = c .before .before .before .before .args in
     let t = tables (a .w .now) in
-    omega (arith, c .slice-known3 .given (nextAt + t .queue (t .via (a .b) - 1)))
+    omega (arith, c .before .slice-known3 .given (nextAt + t .queue (t .via (a .b) - 1)))
 
-add-w : tie.Need-add-w
-add-w c = search needs
-
-cast-w : tie.Need-cast-w
-cast-w c = search needs
-
-add-w-2 : tie.Need-add-w-2
-add-w-2 c = search needs
-
-mul-w : tie.Need-mul-w
-mul-w c = search needs
-
-slice-write-w : tie.Need-slice-write-w
-slice-write-w c = search needs
-
-add-w-3 : tie.Need-add-w-3
-add-w-3 c = search needs
-
-cast-w-2 : tie.Need-cast-w-2
-cast-w-2 c = search needs
-
-add-w-4 : tie.Need-add-w-4
-add-w-4 c = search needs
-
-mul-w-2 : tie.Need-mul-w-2
-mul-w-2 c = search needs
-
-slice-write-w-2 : tie.Need-slice-write-w-2
-slice-write-w-2 c = simp length-set (omega arith)
+put-behind-requires : tie.Need-put-behind-requires
+put-behind-requires c κs = search needs
 
 same-length : tie.Need-same-length
 same-length c = search needs
 
 returns : tie.Need-returns
-returns c =
-    let a = c .before .before .before .args in
-    let w = a .w .now in
-    let x = tables w .queue (tables w .via (a .b) - 1) in
-    record {
-      outside = paired-outside w x (a .b) (omega arith) (omega arith) (omega arith);
-      flipped = paired w x (a .b) (omega arith) (omega arith) (omega arith);
-      before = refl;
-    }
+returns c = search needs
 
 pub flip-spec : {M : Type 1} → statement M
 flip-spec =
@@ -113,15 +75,6 @@ flip-spec =
     mul-old
     slice-read-old
     cast-old
-    add-w
-    cast-w
-    add-w-2
-    mul-w
-    slice-write-w
-    add-w-3
-    cast-w-2
-    add-w-4
-    mul-w-2
-    slice-write-w-2
+    put-behind-requires
     same-length
     returns)

@@ -1,34 +1,20 @@
 -- `chains::prepare` meets its contract. The invariant: of the items before `a` those that end a chain are in the queue. The measure is the
--- number of items left.
+-- number of items left. Assumes nothing.
 use mathlib.Core.Logic.{⊎-elim}
 use Prim.Native.Nat.{_-_}
 use native.Mathlib.Omega.{arith}
-use Rattle.bits.specs.Work.{noneAt}
-use Rattle.bits.proofs.Frames.{part-cleared}
-use Rattle.chains.proofs.Preparing.{Filling, filling-none, filling-skip, filling-more, filling-done, cleared-unseen}
+use Rattle.chains.proofs.Preparing.{Filling, filling-none, filling-skip, filling-more, filling-done}
 use Rattle.chains.proofs.prepare.Statement.{statement}
 use Rattle.chains.proofs.prepare.Tie as tie
 
 abbrev Inv-loop : tie.InvT-loop
-Inv-loop w₀ m from to tail₀ a₀ w tail a = Filling m w₀ w tail a
+Inv-loop w₀ m tail₀ a₀ w tail a = Filling m w₀ w tail a
 
 abbrev μ-loop : tie.MeasureT-loop
-μ-loop w₀ m from to tail₀ a₀ w tail a = m - a
+μ-loop w₀ m tail₀ a₀ w tail a = m - a
 
-mul-clear : tie.Need-mul-clear Inv-loop μ-loop
-mul-clear c = omega arith
-
-sub-clear : tie.Need-sub-clear Inv-loop μ-loop
-sub-clear c = omega arith
-
-part-clear-start : tie.Need-part-clear-start Inv-loop μ-loop
-part-clear-start c = omega arith
-
-part-clear-end : tie.Need-part-clear-end Inv-loop μ-loop
-part-clear-end c = omega arith
-
-clear-requires : tie.Need-clear-requires Inv-loop μ-loop
-clear-requires c κs = tt
+clear-seen-requires : tie.Need-clear-seen-requires Inv-loop μ-loop
+clear-seen-requires c κs = omega arith
 
 loop-holds : tie.Need-loop-holds Inv-loop μ-loop
 loop-holds c = filling-none _ _
@@ -80,9 +66,8 @@ returns : tie.Need-returns Inv-loop μ-loop
 returns c =
     let a = c .before .before .before .before .before .before .before .args in
     let at = c .before .loop in
-    let cleared = c .before .before .before .before .clear in
-    let z = part-cleared (a .w .now) (cleared .last .0) 5120 8 noneAt (omega arith) (omega arith) (cleared .ensures) in
-    filling-done (a .m) _ (at .w) (at .tail) (at .a) (omega arith) (at .inv) (a .w .now) (z .outside) (cleared-unseen _ _ z) (omega arith)
+    let k = c .before .before .before .before .clear-seen in
+    filling-done (a .m) _ (at .w) (at .tail) (at .a) (omega arith) (at .inv) (a .w .now) (k .ensures) (omega arith)
 
 pub prepare-spec : {M : Type 1} → statement M
 prepare-spec =
@@ -90,11 +75,7 @@ prepare-spec =
     (tie.spec
     Inv-loop
     μ-loop
-    mul-clear
-    sub-clear
-    part-clear-start
-    part-clear-end
-    clear-requires
+    clear-seen-requires
     loop-holds
     add-if1
     mul-if1
