@@ -3,11 +3,11 @@ use mathlib.Core.Path.{_≡_, refl, ap, _∙_}
 use mathlib.Core.Logic.{_≢_}
 use mathlib.Core.List.{List, _++_}
 use Prim.Native.Nat.{ℕ, _+_, _-_, _*_, _/_, _≤_, _<_}
-use native.Mathlib.Decide.{ℕ-discrete}
+use native.Mathlib.Decide.{ℕ-discrete, decLt}
 use native.Mathlib.Omega.{arith}
 use lib.ListN.{length, getD, set, take, drop, replicate, length-set, length-append, length-drop, length-replicate, getD-replicate, List·getD-append}
 use lib.Seq.{length-take-le, getD-append-add, getD-set-other, getD-take, getD-drop}
-use Rattle.bits.specs.Bits.{bit, BitSet}
+use Rattle.bits.specs.Bits.{bit, BitSet, RowJoined}
 use Rattle.bits.specs.Work.{matrixWords, Matrix, Outside}
 use Rattle.bits.proofs.Rows.{bit-word, bits-words}
 
@@ -60,6 +60,24 @@ set-other {w} {w′} base a b hb s x y hy ne = go (ℕ-discrete x a)
     go : Dec (x ≡ a) → bit w′ (base + 8 * x) y ≡ bit w (base + 8 * x) y
     go (yes e) = rw e (s .others y (λ f. ne (e, f)))
     go (no d) = bit-word w w′ (base + 8 * x) y (s .words (base + 8 * x + y / 32) (λ f. d (omega arith)))
+
+-- ---- one row of a matrix changed
+
+pub set-outside : {w w′ : List ℕ} (row b : ℕ) → b < 256 → BitSet w w′ row b → Outside row (row + 8) w w′
+set-outside row b hb s =
+    record { same-length = s .same-length; before = λ i h. s .words i (omega arith); behind = λ i h. s .words i (omega arith) }
+
+pub joined-outside : {w w′ : List ℕ} {base a k : ℕ} → RowJoined w w′ base a k → Outside (base + 8 * a) (base + 8 * a + 8) w w′
+joined-outside j = record { same-length = j .same-length; before = j .before; behind = j .behind }
+
+-- leaves the bits of the others
+pub row-other : {w w′ : List ℕ} (base a : ℕ) → Outside (base + 8 * a) (base + 8 * a + 8) w w′ → (x y : ℕ) → y < 256 → x ≢ a
+    → bit w′ (base + 8 * x) y ≡ bit w (base + 8 * x) y
+row-other {w} {w′} base a o x y hy ne = bits-words w w′ (base + 8 * x) y hy (λ i lo hi. far i lo hi (decLt x a))
+  where
+    far : (i : ℕ) → base + 8 * x ≤ i → i < base + 8 * x + 8 → Dec (x < a) → getD w′ i 0 ≡ getD w i 0
+    far i lo hi (yes l) = o .before i (omega arith)
+    far i lo hi (no l) = o .behind i (let d : a < x = omega (arith, ne) in omega arith)
 
 -- a matrix before the words that may have changed
 pub matrix-before : {base lo hi : ℕ} {w w′ : List ℕ} {R : ℕ → ℕ → Type 0} → base + matrixWords ≤ lo → Outside lo hi w w′ → Matrix base w R

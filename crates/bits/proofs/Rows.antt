@@ -11,7 +11,7 @@ use lib.Seq.{getD-set-same, getD-set-other}
 use lib.Pow.{pow-lt, pow-mono}
 use lib.Bits.{bitOr, bitXor, differ, or-lt, xor-lt}
 use lib.Count.{trailingZeros}
-use Rattle.bits.specs.Bits.{bit, BitSet, RowJoined, NextNew}
+use Rattle.bits.specs.Bits.{bit, BitSet, RowJoined, FirstBit, NextNew}
 use Rattle.bits.proofs.Digits.{digit, digit-lt, digit-or, digit-xor, digit-shr, digit-one, digit-other, digit-trailing, digit-below, digit-none}
 
 pub bit-lt : (w : List ℕ) (row b : ℕ) → bit w row b < 2
@@ -124,6 +124,44 @@ row-joined w w′ base a k i e s =
       behind = λ j h. s .behind j (omega arith);
       joined = λ b l. ap (λ (x : ℕ). digit x (b % 32)) (s .done (b / 32) (omega arith)) ∙ digit-or _ _ (b % 32);
     }
+
+-- ---- the first bit
+
+-- no bit of the words before word `i` of the row at `row` is set
+abbrev pub NoneBefore : List ℕ → ℕ → ℕ → Type 0
+NoneBefore w row i = (c : ℕ) → c < 32 * i → bit w row c ≡ 0
+
+module _ (w : List ℕ) (row i : ℕ) (none : NoneBefore w row i) where
+  -- the bits of word `i` are its digits
+  bit-digit : (j : ℕ) → j < 32 → bit w row (32 * i + j) ≡ digit (getD w (row + i) 0) j
+  unfolding bit
+  bit-digit j h =
+      let e : (32 * i + j) / 32 ≡ i = omega arith in
+      let f : (32 * i + j) % 32 ≡ j = omega arith in
+      rw (e, f)
+
+  pub first-here : i < 8 → getD w (row + i) 0 < 2 ^ 32 → 0 < getD w (row + i) 0 → FirstBit w row (32 * i + trailingZeros 32 (getD w (row + i) 0))
+  first-here l h p =
+      let (below, one) = digit-trailing 32 (getD w (row + i) 0) h p in
+      record {
+        at-most = omega arith;
+        here = λ q. bit-digit (trailingZeros 32 (getD w (row + i) 0)) below ∙ one;
+        none = λ c hi. go below c hi (decLt c (32 * i));
+      }
+    where
+      go : trailingZeros 32 (getD w (row + i) 0) < 32 → (c : ℕ) → c < 32 * i + trailingZeros 32 (getD w (row + i) 0) → Dec (c < 32 * i)
+          → bit w row c ≡ 0
+      go below c hi (yes q) = none c q
+      go below c hi (no q) =
+          let e : 32 * i + (c - 32 * i) ≡ c = omega arith in
+          rw e at (bit-digit (c - 32 * i) (omega arith) ∙ digit-below 32 (getD w (row + i) 0) (c - 32 * i) (omega arith))
+
+  pub none-here : getD w (row + i) 0 ≡ 0 → NoneBefore w row (i + 1)
+  none-here z c hi = go (decLt c (32 * i))
+    where
+      go : Dec (c < 32 * i) → bit w row c ≡ 0
+      go (yes q) = none c q
+      go (no q) = let e : c / 32 ≡ i = omega arith in bits-zero w row c (rw e z)
 
 -- ---- the first new bit
 

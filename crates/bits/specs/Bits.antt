@@ -23,6 +23,12 @@ pub record RowJoined (w w′ : List ℕ) (base a k : ℕ) : Type 0 where
   pub behind : (i : ℕ) → base + 8 * a + 8 ≤ i → getD w′ i 0 ≡ getD w i 0
   pub joined : (b : ℕ) → b < 256 → bit w′ (base + 8 * a) b ≡ max (bit w (base + 8 * a) b) (bit w (base + 8 * k) b)
 
+-- `r` is the first bit of the row at `row`, or 256
+pub record FirstBit (w : List ℕ) (row r : ℕ) : Type 0 where
+  pub at-most : r ≤ 256
+  pub here : r < 256 → bit w row r ≡ 1
+  pub none : (c : ℕ) → c < r → bit w row c ≡ 0
+
 -- `r` is the first bit from `from` on that the row at `row` has and the row at `seen` has not, or 256
 pub record NextNew (w : List ℕ) (row seen from r : ℕ) : Type 0 where
   pub at-least : from ≤ r

@@ -2,7 +2,7 @@
 ghost use mathlib.Core.Path.{_≡_};
 ghost use Prim.Native.Nat.{_+_, _*_, _/_, _<_, _≤_};
 ghost use lib.ListN.{length, replicate};
-ghost use Rattle.bits.specs.Bits.{bit, BitSet, RowJoined, NextNew};
+ghost use Rattle.bits.specs.Bits.{bit, BitSet, RowJoined, FirstBit, NextNew};
 
 // The regions of the work words: the links and the ways, each a row of bits for each episode; the tables of the search, 256 words each;
 // the bits of what it has seen, and bits of which none is set.
@@ -53,6 +53,22 @@ pub fn join_row(w: &mut [u32], base: usize, a: usize, k: usize)
         w[to + i] = w[to + i] | w[from + i];
         i += 1;
     }
+}
+
+// The first bit of the row that starts at word `row`, or 256.
+pub fn first_bit(w: &[u32], row: usize) -> usize
+    requires { ⌜ row + 8 ≤ length (now w) ⌝ }
+    ensures { λ r. ⌜ FirstBit (now (w .entry)) row r ⌝ }
+{
+    let mut word = 0;
+    while word < 8 {
+        let x = w[row + word];
+        if x != 0 {
+            return 32 * word + u32::trailing_zeros(x) as usize;
+        }
+        word += 1;
+    }
+    256
 }
 
 // The first bit from `from` on that the row at `row` has and the row at `seen` has not, or 256.

@@ -3,35 +3,29 @@ use mathlib.Core.Path.{_≡_, refl, sym, subst}
 use mathlib.Core.Logic.{_⊎_, ⊎-elim, inl, inr}
 use mathlib.Core.List.{List}
 use Prim.Native.Nat.{ℕ, suc, _+_, _*_, _≤_, _<_}
-use native.Mathlib.Decide.{ℕ-discrete, decLt}
+use native.Mathlib.Decide.{ℕ-discrete}
 use native.Mathlib.Numerals.{add-one}
 use native.Mathlib.Omega.{arith}
-use lib.ListN.{getD}
 use Rattle.paths.specs.Graph.{Graph, EndsBelow, Link}
 use Rattle.paths.specs.Closure.{WayBelow}
 use Rattle.paths.proofs.Ways.{below-way, way-below, way-first}
-use Rattle.bits.specs.Bits.{bit, RowJoined}
+use Rattle.bits.specs.Bits.{bit, RowJoined, FirstBit}
 use Rattle.bits.specs.Work.{waysAt, Matrix, Outside, nextAt}
-use Rattle.bits.proofs.Rows.{bit-lt, bits-words}
+use Rattle.bits.proofs.Rows.{bit-lt}
 use Rattle.reach.specs.Reach.{RowClosed, RoundClosed, Closed}
-use Rattle.bits.proofs.Frames.{outside-none, outside-then}
+use Rattle.bits.proofs.Frames.{outside-none, outside-then, outside-wider, joined-outside, row-other}
 
 -- row `k` was joined into row `a`, where `a` has `k`
 pub row-joined-closed : (w w′ : List ℕ) (a k : ℕ) → a < 256 → k < 256 → bit w (waysAt + 8 * a) k ≡ 1 → RowJoined w w′ waysAt a k → RowClosed w w′ a k
 row-joined-closed w w′ a k ha hk o j =
     record {
-      outside = record { same-length = j .same-length; before = λ i h. j .before i (omega arith); behind = λ i h. j .behind i (omega arith) };
+      outside = outside-wider (omega arith) (omega arith) (joined-outside j);
       here = λ y hy.
           let e = j .joined y hy in
           let l : bit w (waysAt + 8 * k) y < 2 = bit-lt w (waysAt + 8 * k) y in
           omega arith;
-      other = λ x y hx hy ne.
-          bits-words w w′ (waysAt + 8 * x) y hy (λ i lo hi. far x ne i lo hi (decLt x a));
+      other = λ x y hx hy ne. row-other waysAt a (joined-outside j) x y hy ne;
     }
-  where
-    far : (x : ℕ) → (x ≡ a → ⊥) → (i : ℕ) → waysAt + 8 * x ≤ i → i < waysAt + 8 * x + 8 → Dec (x < a) → getD w′ i 0 ≡ getD w i 0
-    far x ne i lo hi (yes l) = j .before i (omega arith)
-    far x ne i lo hi (no l) = j .behind i (let d : a < x = omega (arith, ne) in omega arith)
 
 -- and left alone, where it has not
 pub row-left-closed : (w : List ℕ) (a k : ℕ) → (bit w (waysAt + 8 * a) k ≡ 1 → ⊥) → RowClosed w w a k
@@ -137,6 +131,26 @@ round-end w w′ n k a h s =
                 q .complete x y hx hy
                 (⊎-elim inl
                 (λ r. let l : x < g .n = way-first ends (below-way g k (r .0)) in inr (omega arith, r .0, r .1)) r);
+          });
+    }
+
+-- where `k` has no way, its round changes nothing
+pub round-none : (w : List ℕ) (n k r : ℕ) → k < 256 → FirstBit w (waysAt + 8 * k) r → 256 ≤ r → RoundClosed w w n k
+unfolding WayBelow
+round-none w n k r hk f h =
+    record {
+      outside = outside-none waysAt nextAt w;
+      ways = λ g ends e m.
+          let next : k + 1 ≡ suc k = add-one k in
+          subst (λ (j : ℕ). Matrix waysAt w (WayBelow g j)) (sym next)
+          (record {
+            sound = λ x y hx hy o. inl (m .sound x y hx hy o);
+            complete = λ x y hx hy v.
+                ⊎-elim (m .complete x y hx hy)
+                (λ q.
+                let o : bit w (waysAt + 8 * k) y ≡ 1 = m .complete k y hk hy (q .1) in
+                let z : bit w (waysAt + 8 * k) y ≡ 0 = f .none y (omega arith) in
+                absurd (omega arith)) v;
           });
     }
 

@@ -5,17 +5,17 @@ ghost use lib.ListN.{length};
 ghost use Rattle.log.specs.Words.{kind, number};
 ghost use Rattle.log.specs.Log.{graphOf, PassedLog};
 ghost use Rattle.bits.specs.Work.{nextAt};
-ghost use Rattle.reach.specs.Reach.{NoneMarked, Marked, WordTaken, LinksMarked, RowClosed, RoundClosed, Closed, ReachedLog, FirstLoop};
+ghost use Rattle.reach.specs.Reach.{NoneMarked, NoWays, Marked, WordTaken, LinksMarked, RiseTest, RowReached, RisingReached};
+ghost use Rattle.reach.specs.Reach.{LinksCopied, RowClosed, RoundClosed, Closed, WaysReached, ReachedLog, FirstLoop};
 use bits::LINKS;
 use bits::WAYS;
 
-// Marks the link from `a` to `b` in both matrices.
+// Marks the link from `a` to `b`.
 fn mark(w: &mut [u32], a: usize, b: usize)
     requires { ⌜ (nextAt ≤ length (now w)) × (a < 256) × (b < 256) ⌝ }
     ensures { λ _. ⌜ Marked (now (w .entry)) (now (w .exit)) a b ⌝ }
 {
     bits::set_bit(w, LINKS + 8 * a, b);
-    bits::set_bit(w, WAYS + 8 * a, b);
 }
 
 // Takes a word between head and end: a from word's number is given back, and a to word's link from `from` is marked.
@@ -44,6 +44,60 @@ fn mark_links(log: &[u32], w: &mut [u32])
     }
 }
 
+// Whether each link goes to a higher number.
+fn rises(w: &[u32], n: usize) -> bool
+    requires { ⌜ (nextAt ≤ length (now w)) × (n ≤ 256) ⌝ }
+    ensures { λ r. ⌜ RiseTest (now (w .entry)) n r ⌝ }
+{
+    let mut a = 0;
+    while a < n {
+        if bits::first_bit(w, LINKS + 8 * a) <= a {
+            return false;
+        }
+        a += 1;
+    }
+    true
+}
+
+// Gives `a` its ways, where links rise and all above `a` have theirs: each link that is not among them yet, and the ways from there.
+fn reach_row(w: &mut [u32], a: usize)
+    requires { ⌜ (nextAt ≤ length (now w)) × (a < 256) ⌝ }
+    ensures { λ _. ⌜ RowReached (now (w .entry)) (now (w .exit)) a ⌝ }
+{
+    let links = LINKS + 8 * a;
+    let ways = WAYS + 8 * a;
+    let mut b = bits::next_new(w, links, ways, a + 1);
+    while b < 256 {
+        bits::set_bit(w, ways, b);
+        bits::join_row(w, WAYS, a, b);
+        b = bits::next_new(w, links, ways, b + 1);
+    }
+}
+
+// The ways of links that rise, from the last episode to the first.
+fn reach_rising(w: &mut [u32], n: usize)
+    requires { ⌜ (nextAt ≤ length (now w)) × (n ≤ 256) × NoWays (now w) ⌝ }
+    ensures { λ _. ⌜ RisingReached (now (w .entry)) (now (w .exit)) n ⌝ }
+{
+    let mut a = n;
+    while 0 < a {
+        a -= 1;
+        reach_row(w, a);
+    }
+}
+
+// Copies the links to where the ways are to stand.
+fn copy_links(w: &mut [u32])
+    requires { ⌜ nextAt ≤ length (now w) ⌝ }
+    ensures { λ _. ⌜ LinksCopied (now (w .entry)) (now (w .exit)) ⌝ }
+{
+    let mut i = 0;
+    while i < WAYS {
+        w[WAYS + i] = w[LINKS + i];
+        i += 1;
+    }
+}
+
 // Where `a` has a way to `k`, gives it the ways of `k`.
 fn close_row(w: &mut [u32], a: usize, k: usize)
     requires { ⌜ (nextAt ≤ length (now w)) × (a < 256) × (k < 256) ⌝ }
@@ -54,11 +108,14 @@ fn close_row(w: &mut [u32], a: usize, k: usize)
     }
 }
 
-// One round of Warshall's closure: ways by way of `k`.
+// One round of Warshall's closure: ways by way of `k`, none where `k` has no way.
 fn close_round(w: &mut [u32], n: usize, k: usize)
     requires { ⌜ (nextAt ≤ length (now w)) × (n ≤ 256) × (k < n) ⌝ }
     ensures { λ _. ⌜ RoundClosed (now (w .entry)) (now (w .exit)) n k ⌝ }
 {
+    if bits::first_bit(w, WAYS + 8 * k) == 256 {
+        return;
+    }
     let mut a = 0;
     while a < n {
         close_row(w, a, k);
@@ -66,7 +123,7 @@ fn close_round(w: &mut [u32], n: usize, k: usize)
     }
 }
 
-// The closure of the matrix of ways.
+// The closure of the links, which stand where the ways are to stand.
 fn close(w: &mut [u32], n: usize)
     requires { ⌜ (nextAt ≤ length (now w)) × (n ≤ 256) ⌝ }
     ensures { λ _. ⌜ Closed (now (w .entry)) (now (w .exit)) n ⌝ }
@@ -78,13 +135,26 @@ fn close(w: &mut [u32], n: usize)
     }
 }
 
+// The ways of the links.
+fn reach_ways(w: &mut [u32], n: usize)
+    requires { ⌜ (nextAt ≤ length (now w)) × (n ≤ 256) × NoWays (now w) ⌝ }
+    ensures { λ _. ⌜ WaysReached (now (w .entry)) (now (w .exit)) n ⌝ }
+{
+    if rises(w, n) {
+        reach_rising(w, n);
+        return;
+    }
+    copy_links(w);
+    close(w, n);
+}
+
 // The links and the ways of a log that passes with `n` episodes, in words that are zero.
 pub fn reachability(log: &[u32], n: usize, w: &mut [u32])
     requires { ⌜ PassedLog (now log) × (graphOf (now log) .n ≡ n) × (n ≤ 256) × (nextAt ≤ length (now w)) × NoneMarked (now w) ⌝ }
     ensures { λ _. ⌜ ReachedLog (now (log .entry)) (now (w .entry)) (now (w .exit)) ⌝ }
 {
     mark_links(log, w);
-    close(w, n);
+    reach_ways(w, n);
 }
 
 // The first episode that has a way to itself, or `n`.

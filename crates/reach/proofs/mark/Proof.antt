@@ -1,4 +1,4 @@
--- `reach::mark` meets its contract: the bit is set in one matrix, then in the other.
+-- `reach::mark` meets its contract: the bit of the link is set.
 -- Assumes nothing.
 use Rattle.reach.proofs.Marks.{marked}
 use borrow.Author.Needs.{needs}
@@ -14,33 +14,13 @@ add-set-bit c = search needs
 set-bit-requires : tie.Need-set-bit-requires
 set-bit-requires c κs = search needs
 
-mul-set-bit-2 : tie.Need-mul-set-bit-2
-mul-set-bit-2 c = search needs
-
-add-set-bit-2 : tie.Need-add-set-bit-2
-add-set-bit-2 c = search needs
-
-set-bit-requires-2 : tie.Need-set-bit-requires-2
-set-bit-requires-2 c κs = search needs
-
 same-length : tie.Need-same-length
 same-length c = search needs
 
 returns : tie.Need-returns
 returns c =
-    let first = c .before .before .before .before .before .before in
-    let s = first .before .before .before in
-    marked (s .args .a) (s .args .b) (s .pre .1) (s .pre .2) (first .set-bit .ensures) (c .before .before .set-bit2 .ensures)
+    let s = c .before .before .before .before .before in
+    marked (s .args .a) (s .args .b) (s .pre .1) (s .pre .2) (c .before .before .set-bit .ensures)
 
 pub mark-spec : {M : Type 1} → statement M
-mark-spec =
-    tie.close
-    (tie.spec
-    mul-set-bit
-    add-set-bit
-    set-bit-requires
-    mul-set-bit-2
-    add-set-bit-2
-    set-bit-requires-2
-    same-length
-    returns)
+mark-spec = tie.close (tie.spec mul-set-bit add-set-bit set-bit-requires same-length returns)
