@@ -1,5 +1,5 @@
 -- What asking for a thread of a report's words gives, from what the parse finds.
-use mathlib.Core.Path.{_≡_, refl, sym, ap, _∙_}
+use mathlib.Core.Path.{_≡_, refl, sym, ap₂, _∙_}
 use mathlib.Core.Logic.{inl, inr}
 use mathlib.Core.List.{List, []}
 use Prim.Native.Nat.{ℕ, _+_, _-_, _≤_, _<_}
@@ -64,17 +64,18 @@ module _ (ws : List ℕ) (i : ℕ) where
       }
 
   -- the stretch of the thread that stands at `r`
-  pub its-stretch : HasThread ws i → (r end : ℕ) → ThreadAt ws i r → end ≡ r + 1 + number (getD ws r 0) → ThreadStretch ws i (r + 1) end
-  its-stretch has r end there last =
-      let long : end - (r + 1) ≡ number (getD ws r 0) = omega arith in
+  pub its-stretch : HasThread ws i → (r start end : ℕ) → ThreadAt ws i r → start ≡ r + 1 → end ≡ start + number (getD ws r 0)
+      → ThreadStretch ws i start end
+  its-stretch has r start end there first last =
+      let long : end - start ≡ number (getD ws r 0) = omega arith in
       let inside : end ≤ length ws = omega (arith, thread-room ws (has .0) (has .1) (has .2) i r (has .3) there .1) in
       record {
         rises = omega arith;
         inside = inside;
         steps = record {
-          part = (r + 1, end, omega arith, inside, refl);
+          part = (start, end, omega arith, inside, refl);
           steps = λ apart threads report lt.
-              ap (λ (x : ℕ). take x (drop (r + 1) ws)) long ∙ thread-steps ws apart threads report i r lt there;
+              ap₂ (λ (x : ℕ) (y : ℕ). take x (drop y ws)) long first ∙ thread-steps ws apart threads report i r lt there;
           empty = λ none. absurd (none has);
         };
         starts = λ apart threads report lt. omega (arith, there apart threads report lt .0);

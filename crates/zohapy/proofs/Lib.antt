@@ -1,2 +1,2 @@
--- The outcomes in numbers.
+-- The outcomes in numbers, and a stretch by its length.
 pub mod Numbers

@@ -1,6 +1,8 @@
--- The outcomes in numbers, one by one: `x` and `y` are those of the outcome `r` once its case is known.
-use mathlib.Core.Path.{_≡_, sym, ap, ap₂, _∙_}
-use Prim.Native.Nat.{ℕ}
+-- The outcomes in numbers, one by one: `x` and `y` are those of the outcome `r` once its case is known; and a stretch by its length.
+use mathlib.Core.Path.{_≡_, sym, ap, ap₂, subst, _∙_}
+use mathlib.Core.List.{List}
+use Prim.Native.Nat.{ℕ, _+_}
+use Rattle.parsing.specs.Whole.{ThreadStretch}
 use Rattle.fair_copy.specs.Copied.{copyAnswer}
 use Rattle.fair_copy.specs.declared.CopyOutcome.{CopyOutcome}
 use Rattle.fair_copy.specs.declared.CopyOutcome.the-variants.{Copied, Refused as NotCopied}
@@ -34,3 +36,7 @@ module _ (r : CopyOutcome) (x y : ℕ) where
 
   pub copy-refusal-numbers : (q p : ℕ) → r ≡ NotCopied q p → x ≡ q → y ≡ p → numbers (copyAnswer r) ≡ (x, y)
   copy-refusal-numbers q p e f g = copy-told (NotCopied q p) e ∙ pair f g
+
+pub by-length : (ws : List ℕ) (i a b x y : ℕ) → ThreadStretch ws i a b → x ≡ a → x + y ≡ b → ThreadStretch ws i x (x + y)
+by-length ws i a b x y s e f =
+    subst (λ (z : ℕ). ThreadStretch ws i z (x + y)) (sym e) (subst (λ (z : ℕ). ThreadStretch ws i a z) (sym f) s)

@@ -50,7 +50,7 @@ returns-2 : tie.Need-returns-2
 returns-2 c =
     let at = c .before .before in
     let a = at .before .before .before .before .args in
-    its-stretch (now (a .report)) (a .i) (found (at .before)) (at .thread-at .result) _ (at .thread-at .ensures) (omega arith)
+    its-stretch (now (a .report)) (a .i) (found (at .before)) (at .thread-at .result) _ _ (at .thread-at .ensures) (omega arith) (omega arith)
 
 pub thread-stretch-spec : {M : Type 1} → statement M
 thread-stretch-spec =

@@ -1,9 +1,7 @@
 -- `zohapy::zohapy_thread` meets its contract: the stretch by its length instead of its end. Assumes nothing.
-use mathlib.Core.Path.{subst}
-use Prim.Native.Nat.{ℕ}
 use native.Mathlib.Omega.{arith}
 use denote.Ref.{now}
-use Rattle.parsing.specs.Whole.{ThreadStretch}
+use Rattle.zohapy.proofs.Numbers.{by-length}
 use borrow.Author.Needs.{needs}
 use Rattle.zohapy.proofs.zohapy_thread.Statement.{statement}
 use Rattle.zohapy.proofs.zohapy_thread.Tie as tie
@@ -22,7 +20,7 @@ returns c =
     let a = c .before .before .before .before .args in
     let stretch = c .before .thread-stretch .ensures in (
       c .before .before .thread-number .ensures,
-      subst (λ (b : ℕ). ThreadStretch (now (a .report)) (a .i) (c .before .thread-stretch .result .start) b) (omega (arith, stretch .rises)) stretch,
+      by-length (now (a .report)) (a .i) _ _ _ _ stretch (omega arith) (omega (arith, stretch .rises)),
     )
 
 pub zohapy-thread-spec : {M : Type 1} → statement M
