@@ -15,9 +15,3 @@ word-kind-number w = omega arith
 
 pub number-lt : (w : ℕ) → number w < 2 ^ 28
 number-lt w = omega arith
-
-pub kind-lt : (w : ℕ) → w < 2 ^ 32 → kind w < 16
-kind-lt w h = omega arith
-
-pub word-lt : (k x : ℕ) → k < 16 → x < 2 ^ 28 → word k x < 2 ^ 32
-word-lt k x h g = omega arith
