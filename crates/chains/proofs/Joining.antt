@@ -1,36 +1,24 @@
--- From single items to as few chains as can be, one chain fewer at a time.
-use mathlib.Core.Path.{_≡_}
-use mathlib.Core.Bool.{true, false}
+-- As few chains as can be, by a search from each item that ends a chain.
+use mathlib.Core.Path.{_≡_, refl, sym, subst, _∙_}
 use mathlib.Core.Logic.{⊎-elim}
 use mathlib.Core.List.{List}
-use Prim.Native.Nat.{ℕ, _+_, _-_, _≤_, _<_}
+use Prim.Native.Nat.{ℕ, _+_, _≤_, _<_}
 use native.Mathlib.Omega.{arith}
 use lib.ListN.{getD}
-use Rattle.bits.specs.Bits.{sum}
 use Rattle.bits.specs.Work.{nextAt, prevAt, viaAt, Outside, noneAt}
-use Rattle.chains.specs.Items.{Matching}
-use Rattle.chains.specs.State.{tables, Pairs, Sized, ShrunkIn, JoinedIn}
-use Rattle.chains.proofs.Counts.{shrunk-fewer}
-use Rattle.bits.proofs.Frames.{outside-none, outside-then, outside-wider}
-use Rattle.chains.proofs.Relations.{exhausted-within}
+use Rattle.bits.proofs.Frames.{outside-then, outside-wider}
+use Rattle.chains.specs.Items.{Dead}
+use Rattle.chains.specs.State.{tables, deads, Pairs, Sized, ForgottenIn, Extendable, ExtendedIn, Chained, JoinedIn}
+use Rattle.chains.proofs.Deads.{dead-none, dead-moved, dead-exhausted}
+use Rattle.chains.proofs.Relations.{links-none, exhausted-within}
+use Rattle.chains.proofs.Searches.{matching-same}
 use Rattle.chains.proofs.Showing.{matching-kept, same-links, sized-kept, forth, back}
 
--- the chains are of pairs of the matrix; the words were `w₀`
-pub record Joining (w₀ w : List ℕ) (base m : ℕ) : Type 0 where
-  pub sized : Sized w base m
-  pub outside : Outside nextAt noneAt w₀ w
-  pub matching : Matching m (tables w)
-  pub pairs : (a b : ℕ) → a < m → b < m → tables w .next a ≡ b + 1 → Pairs base w₀ a b
-
--- how many chains there are
-abbrev pub chainCount : List ℕ → ℕ → ℕ
-chainCount w m = sum (λ a. 1 - getD w (nextAt + a) 0) m
-
-pub joining-start : (w : List ℕ) (base m : ℕ) → Sized w base m → ((i : ℕ) → nextAt ≤ i → i < viaAt → getD w i 0 ≡ 0) → Joining w w base m
-joining-start w base m z none =
+-- single items
+pub chained-none : (w : List ℕ) (base m : ℕ) → Sized w base m → ((i : ℕ) → nextAt ≤ i → i < viaAt → getD w i 0 ≡ 0) → Chained w base m
+chained-none w base m z none =
     record {
       sized = z;
-      outside = outside-none nextAt noneAt w;
       matching =
           record {
             next-le = λ a al. let e = next-none a al in omega arith;
@@ -47,26 +35,71 @@ joining-start w base m z none =
     prev-none : (b : ℕ) → b < m → getD w (prevAt + b) 0 ≡ 0
     prev-none b bl = none (prevAt + b) (omega arith) (omega (arith, z .items))
 
-module _ (w₀ w w′ : List ℕ) (base m : ℕ) (z : Sized w₀ base m) (s : Joining w₀ w base m) where
-  -- one chain fewer
-  pub joining-more : ShrunkIn w w′ base m true → Joining w₀ w′ base m
-  joining-more (o, k) =
+-- the items below `a` have been searched from, and the chains are of pairs of the matrix; the words were `w₀`
+pub record Joining (w₀ w : List ℕ) (base m a : ℕ) : Type 0 where
+  pub up-to : a ≤ m
+  pub outside : Outside nextAt noneAt w₀ w
+  pub extendable : Extendable w base m a
+  pub pairs : (x b : ℕ) → x < m → b < m → tables w .next x ≡ b + 1 → Pairs base w₀ x b
+
+module _ (w₀ : List ℕ) (base m : ℕ) (z : Chained w₀ base m) where
+  pub joining-start : (w : List ℕ) → ForgottenIn w₀ w → Joining w₀ w base m 0
+  joining-start w n =
       record {
-        sized = sized-kept (o .same-length) (s .sized);
-        outside = outside-then (s .outside) o;
-        matching = k .matching;
-        pairs = λ a b al bl h. ⊎-elim (s .pairs a b al bl) (back z (omega arith) (s .outside) a b al bl) (k .pairs a b al bl h);
+        up-to = omega arith;
+        outside = outside-wider (omega arith) (omega arith) (n .outside);
+        extendable =
+            record {
+              sized = sized-kept (n .outside .same-length) (z .sized);
+              matching = matching-kept (omega arith) (n .outside) (z .sized .items) (z .matching);
+              seen-dead =
+                  λ b bl.
+                  n .none-seen b (omega (arith, z .sized .items)) ∙ sym (n .none-dead b (omega (arith, z .sized .items)));
+              dead = dead-none (λ b bl. n .none-dead b (omega (arith, z .sized .items))) (λ a al l. absurd (omega arith));
+            };
+        pairs =
+            λ a b al bl h.
+            let e = same-links (omega arith) (n .outside) m (z .sized .items) .next-same a al in
+            z .pairs a b al bl (omega arith);
       }
 
-  pub joining-less : ShrunkIn w w′ base m true → chainCount w′ m < chainCount w m
-  joining-less (o, k) = shrunk-fewer k
+  module _ (w : List ℕ) (a : ℕ) (s : Joining w₀ w base m a) where
+    -- the search from `a`
+    pub joining-more : (w′ : List ℕ) → a < m → ExtendedIn w w′ base m a → Joining w₀ w′ base m (a + 1)
+    joining-more w′ al h =
+        record {
+          up-to = omega arith;
+          outside = outside-then (s .outside) (h .outside);
+          extendable =
+              record {
+                sized = sized-kept (h .outside .same-length) (x .sized);
+                matching = ⊎-elim (λ k. matching-same (x .matching) k) (λ k. k .matching) (h .change);
+                seen-dead = h .seen-dead;
+                dead =
+                    dead-moved (forth (x .sized) (omega arith) (h .outside)) (back (x .sized) (omega arith) (h .outside)) links-none
+                    (λ b bl. refl) (h .dead);
+              };
+          pairs =
+              λ y b yl bl e.
+              ⊎-elim (λ k. s .pairs y b yl bl (let f = k .next-same y yl in omega arith))
+              (λ k. ⊎-elim (s .pairs y b yl bl) (back (z .sized) (omega arith) (s .outside) y b yl bl) (k .pairs y b yl bl e)) (h .change);
+        }
+      where
+        x : Extendable w base m a
+        x = s .extendable
 
-  -- as few as can be
-  pub joining-end : ShrunkIn w w′ base m false → JoinedIn w₀ w′ base m
-  joining-end (o, x) =
-      record {
-        outside = outside-then (s .outside) (outside-wider (omega arith) (omega arith) o);
-        matching = matching-kept o (z .items) (s .matching);
-        pairs = λ a b al bl h. let e = same-links o m (z .items) .next-same a al in s .pairs a b al bl (omega arith);
-        exhausted = exhausted-within (back z (omega arith) (s .outside)) (forth z (omega arith) (s .outside)) x;
-      }
+    -- all have been searched from
+    pub joining-end : m ≤ a → JoinedIn w₀ w base m
+    joining-end le =
+        record {
+          outside = s .outside;
+          matching = s .extendable .matching;
+          pairs = s .pairs;
+          exhausted =
+              exhausted-within (back (z .sized) (omega arith) (s .outside)) (forth (z .sized) (omega arith) (s .outside))
+              (dead-exhausted (subst (λ (k : ℕ). Dead m (Pairs base w) (tables w) (deads w) k) all (s .extendable .dead))
+              (s .extendable .seen-dead));
+        }
+      where
+        all : a ≡ m
+        all = omega (arith, s .up-to)
