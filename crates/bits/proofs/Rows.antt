@@ -11,7 +11,7 @@ use lib.Seq.{getD-set-same, getD-set-other}
 use lib.Pow.{pow-lt, pow-mono}
 use lib.Bits.{bitOr, bitXor, differ, or-lt, xor-lt}
 use lib.Count.{trailingZeros}
-use Rattle.bits.specs.Bits.{bit, BitSet, RowJoined, FirstBit, NextNew}
+use Rattle.bits.specs.Bits.{bit, BitSet, RowJoined, RowCopied, FirstBit, NextNew}
 use Rattle.bits.proofs.Digits.{digit, digit-lt, digit-or, digit-xor, digit-shr, digit-one, digit-other, digit-trailing, digit-below, digit-none}
 
 pub bit-lt : (w : List ℕ) (row b : ℕ) → bit w row b < 2
@@ -162,6 +162,50 @@ module _ (w : List ℕ) (row i : ℕ) (none : NoneBefore w row i) where
       go : Dec (c < 32 * i) → bit w row c ≡ 0
       go (yes q) = none c q
       go (no q) = let e : c / 32 ≡ i = omega arith in bits-zero w row c (rw e z)
+
+-- ---- a row copied to another
+
+-- the first `i` words of the row at `to` are those of the row at `from`
+pub record Copying (w w′ : List ℕ) (to from i : ℕ) : Type 0 where
+  pub same-length : length w′ ≡ length w
+  pub done : (j : ℕ) → j < i → getD w′ (to + j) 0 ≡ getD w (from + j) 0
+  pub before : (j : ℕ) → j < to → getD w′ j 0 ≡ getD w j 0
+  pub behind : (j : ℕ) → to + i ≤ j → getD w′ j 0 ≡ getD w j 0
+
+pub copying-none : (w : List ℕ) (to from : ℕ) → Copying w w to from 0
+copying-none w to from =
+    record { same-length = refl; done = λ j l. absurd (omega arith); before = λ j l. refl; behind = λ j l. refl }
+
+pub copying-more : (w w′ : List ℕ) (to from i : ℕ) → 8 ≤ (to - from) + (from - to) → i < 8 → to + i < length w
+    → Copying w w′ to from i → Copying w (set w′ (to + i) (getD w′ (from + i) 0)) to from (i + 1)
+copying-more w w′ to from i apart h fits s =
+    record {
+      same-length = length-set w′ (to + i) x ∙ s .same-length;
+      done = λ j l. done j l (ℕ-discrete j i);
+      before = λ j l. getD-set-other w′ (to + i) j x 0 (λ e. absurd (omega arith)) ∙ s .before j l;
+      behind = λ j l. getD-set-other w′ (to + i) j x 0 (λ e. absurd (omega arith)) ∙ s .behind j (omega arith);
+    }
+  where
+    x : ℕ
+    x = getD w′ (from + i) 0
+
+    source : Dec (from + i < to) → getD w′ (from + i) 0 ≡ getD w (from + i) 0
+    source (yes l) = s .before (from + i) l
+    source (no l) = s .behind (from + i) (omega arith)
+
+    done : (j : ℕ) → j < i + 1 → Dec (j ≡ i) → getD (set w′ (to + i) x) (to + j) 0 ≡ getD w (from + j) 0
+    done j l (yes e) = rw e (getD-set-same w′ (to + i) x 0 (rw (s .same-length) fits) ∙ source (decLt (from + i) to))
+    done j l (no ne) = getD-set-other w′ (to + i) (to + j) x 0 (λ e. ne (omega arith)) ∙ s .done j (omega arith)
+
+pub row-copied : (w w′ : List ℕ) (to from i : ℕ) → i ≡ 8 → Copying w w′ to from i → RowCopied w w′ to from
+unfolding bit
+row-copied w w′ to from i e s =
+    record {
+      same-length = s .same-length;
+      before = s .before;
+      behind = λ j h. s .behind j (omega arith);
+      copied = λ b l. ap (λ (x : ℕ). digit x (b % 32)) (s .done (b / 32) (omega arith));
+    }
 
 -- ---- the first new bit
 

@@ -29,6 +29,13 @@ pub record FirstBit (w : List ℕ) (row r : ℕ) : Type 0 where
   pub here : r < 256 → bit w row r ≡ 1
   pub none : (c : ℕ) → c < r → bit w row c ≡ 0
 
+-- `w′` is `w` with the row at `from` copied to the row at `to`
+pub record RowCopied (w w′ : List ℕ) (to from : ℕ) : Type 0 where
+  pub same-length : length w′ ≡ length w
+  pub before : (i : ℕ) → i < to → getD w′ i 0 ≡ getD w i 0
+  pub behind : (i : ℕ) → to + 8 ≤ i → getD w′ i 0 ≡ getD w i 0
+  pub copied : (b : ℕ) → b < 256 → bit w′ to b ≡ bit w from b
+
 -- `r` is the first bit from `from` on that the row at `row` has and the row at `seen` has not, or 256
 pub record NextNew (w : List ℕ) (row seen from r : ℕ) : Type 0 where
   pub at-least : from ≤ r

@@ -34,13 +34,17 @@ queueAt = 4864
 abbrev pub seenAt : ℕ
 seenAt = 5120
 
+-- a row of bits: what earlier searches have seen in vain
+abbrev pub deadAt : ℕ
+deadAt = 5128
+
 -- a row of bits of which none is set
 abbrev pub noneAt : ℕ
-noneAt = 5128
+noneAt = 5136
 
 -- where the regions end
 abbrev pub usedWords : ℕ
-usedWords = 5136
+usedWords = 5144
 
 -- the matrix at `base` has exactly the pairs of `R`, among 256 rows of 256 bits
 pub record Matrix (base : ℕ) (w : List ℕ) (R : ℕ → ℕ → Type 0) : Type 0 where

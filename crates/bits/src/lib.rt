@@ -1,11 +1,11 @@
 // Rows of bits in lent words: 8 words, 256 bits, to a row.
 ghost use mathlib.Core.Path.{_≡_};
-ghost use Prim.Native.Nat.{_+_, _*_, _/_, _<_, _≤_};
+ghost use Prim.Native.Nat.{_+_, _-_, _*_, _/_, _<_, _≤_};
 ghost use lib.ListN.{length, replicate};
-ghost use Rattle.bits.specs.Bits.{bit, BitSet, RowJoined, FirstBit, NextNew};
+ghost use Rattle.bits.specs.Bits.{bit, BitSet, RowJoined, RowCopied, FirstBit, NextNew};
 
 // The regions of the work words: the links and the ways, each a row of bits for each episode; the tables of the search, 256 words each;
-// the bits of what it has seen, and bits of which none is set.
+// the bits of what it has seen, of what earlier searches have seen in vain, and bits of which none is set.
 pub const LINKS: usize = 0;
 
 pub const WAYS: usize = 2048;
@@ -20,9 +20,11 @@ pub const QUEUE: usize = 4864;
 
 pub const SEEN: usize = 5120;
 
-pub const NONE: usize = 5128;
+pub const DEAD: usize = 5128;
 
-pub const USED: usize = 5136;
+pub const NONE: usize = 5136;
+
+pub const USED: usize = 5144;
 
 // Bit `b` of the row that starts at word `row`.
 pub fn bit_at(w: &[u32], row: usize, b: usize) -> u32
@@ -69,6 +71,18 @@ pub fn first_bit(w: &[u32], row: usize) -> usize
         word += 1;
     }
     256
+}
+
+// Copies the row that starts at word `from` to the one that starts at word `to`, at least 8 words away.
+pub fn copy_row(w: &mut [u32], to: usize, from: usize)
+    requires { ⌜ (to + 8 ≤ length (now w)) × (from + 8 ≤ length (now w)) × (8 ≤ (to - from) + (from - to)) ⌝ }
+    ensures { λ _. ⌜ RowCopied (now (w .entry)) (now (w .exit)) to from ⌝ }
+{
+    let mut k = 0;
+    while k < 8 {
+        w[to + k] = w[from + k];
+        k += 1;
+    }
 }
 
 // The first bit from `from` on that the row at `row` has and the row at `seen` has not, or 256.

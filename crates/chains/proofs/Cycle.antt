@@ -29,9 +29,8 @@ use Rattle.paths.specs.Graph.{Graph, Episode, Link, EndsBelow, Way, one, step, 
 use Rattle.paths.proofs.Ways.{way-trans}
 use Rattle.paths.proofs.Numbers.{nodup-below}
 use Rattle.paths.proofs.Loops.{walk-way}
-use Rattle.chains.specs.Items.{Tables, Matching, Open, Exhausted, Shrunk}
+use Rattle.chains.specs.Items.{Tables, SameLinks, Matching, Spent, Dead, Shrunk}
 use Rattle.chains.specs.Cycles.{Selves, Walking}
-use Rattle.chains.proofs.Searches.{SameLinks}
 
 pub selves-matching : {m v : ℕ} {t : Tables} → Selves m t v → Matching m t
 selves-matching {m} {v} {t} s =
@@ -72,17 +71,17 @@ selves-matching {m} {v} {t} s =
         let e : a ≡ b = omega arith in
         rw e (s .next-self b bl ne)
 
-module _ {g : Graph} {t t′ : Tables} {v : ℕ} (ends : EndsBelow g) (s : Selves (g .n) t v) where
+module _ {g : Graph} {t t′ : Tables} {dead : ℕ → ℕ} {v : ℕ} (ends : EndsBelow g) (s : Selves (g .n) t v) where
   -- a search that finds nothing shows that `v` has no way to itself
-  pub no-way-back : SameLinks (g .n) t t′ → Exhausted (g .n) (Link g) t′ → Way g v v → ⊥
+  pub no-way-back : SameLinks (g .n) t t′ → Dead (g .n) (Link g) t′ dead (v + 1) → Way g v v → ⊥
   no-way-back same x w =
       let e = same .prev-same v (s .below) in
       let f = s .prev-end in
-      let h = x .kept v (s .below) (reach w (inl (let i = same .next-same v (s .below) in let j = s .next-end in omega arith))) in
+      let h = x .kept v (s .below) (reach w (inl (omega arith, let i = same .next-same v (s .below) in let j = s .next-end in omega arith))) in
       omega arith
     where
-      open-again : (a : ℕ) → a < g .n → t′ .seen a ≡ 1 → Open (g .n) t′ a
-      open-again a al h =
+      spent-again : (a : ℕ) → a < g .n → dead a ≡ 1 → Spent (g .n) t′ dead (v + 1) a
+      spent-again a al h =
           let k = x .kept a al h in
           let e = same .prev-same a al in
           let f = s .prev-end in
@@ -91,11 +90,11 @@ module _ {g : Graph} {t t′ : Tables} {v : ℕ} (ends : EndsBelow g) (s : Selve
           let j = s .next-self a al ne in
           inr (a, al, omega arith, h)
 
-      reach : {a b : ℕ} → Way g a b → Open (g .n) t′ a → t′ .seen b ≡ 1
+      reach : {a b : ℕ} → Way g a b → Spent (g .n) t′ dead (v + 1) a → dead b ≡ 1
       reach (one {a = a} {b = b} l) o = let (al, bl) = ends a b l in x .closed a b al bl o l
       reach (step {a = a} {b = b} l w) o =
           let (al, bl) = ends a b l in
-          reach w (open-again b bl (x .closed a b al bl o l))
+          reach w (spent-again b bl (x .closed a b al bl o l))
 
 -- after a shrink each item has one behind it
 pub shrunk-next : {m v : ℕ} {R : ℕ → ℕ → Type 0} {t t′ : Tables} → Selves m t v → Shrunk m R t t′ → (x : ℕ) → x < m → 0 < t′ .next x

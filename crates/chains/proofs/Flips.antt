@@ -4,18 +4,18 @@ use mathlib.Core.Logic.{_⊎_, inl, inr, _≢_}
 use Prim.Native.Nat.{ℕ, _+_, _≤_, _<_}
 use native.Mathlib.Decide.{ℕ-discrete}
 use native.Mathlib.Omega.{arith}
-use Rattle.chains.specs.Items.{Tables, SeenFrom, Trail, Shrunk, Flipping, Flipped}
+use Rattle.chains.specs.Items.{Tables, SeenFrom, Trail, Extended, Flipping, Flipped}
 
-module _ {m : ℕ} {R : ℕ → ℕ → Type 0} {t₀ t : Tables} {tail b : ℕ} (p : ℕ) where
+module _ {m : ℕ} {R : ℕ → ℕ → Type 0} {dead : ℕ → ℕ} {t₀ t : Tables} {tail b : ℕ} (p : ℕ) where
   -- the item from which `b` was seen
-  seen-from : Flipping m R t₀ t tail b → t₀ .via b ≡ p + 1 → (p < tail) × R (t₀ .queue p) b
+  seen-from : Flipping m R dead t₀ t tail b → t₀ .via b ≡ p + 1 → (p < tail) × R (t₀ .queue p) b
   seen-from f v = let (q, ql, u, r) = f .from in let e : q ≡ p = omega arith in (omega arith, rw e at r)
 
   -- and it has the item behind it that it had
-  as-before : Flipping m R t₀ t tail b → t₀ .via b ≡ p + 1 → t .next (t₀ .queue p) ≡ t₀ .next (t₀ .queue p)
+  as-before : Flipping m R dead t₀ t tail b → t₀ .via b ≡ p + 1 → t .next (t₀ .queue p) ≡ t₀ .next (t₀ .queue p)
   as-before f v = f .untouched p (omega arith)
 
-  module _ {t′ : Tables} (l : Trail m R t₀ tail) (f : Flipping m R t₀ t tail b) (v : t₀ .via b ≡ p + 1) (w : Flipped m t t′ (t₀ .queue p) b) where
+  module _ {t′ : Tables} (l : Trail m R dead t₀ tail) (f : Flipping m R dead t₀ t tail b) (v : t₀ .via b ≡ p + 1) (w : Flipped m t t′ (t₀ .queue p) b) where
     low : t₀ .queue p < m
     low = l .queued p (seen-from f v .0)
 
@@ -79,8 +79,26 @@ module _ {m : ℕ} {R : ℕ → ℕ → Type 0} {t₀ t : Tables} {tail b : ℕ}
         go (yes e) = let i : t′ .next (t₀ .queue p) ≡ 0 = rw e at h in let j = w .next-here in let bad : ⊥ = omega arith in absurd bad
         go (no ne) = let i = w .next-other x xl ne in f .ends x xl (omega arith)
 
+    dead-prev′ : (c : ℕ) → c < m → dead c ≡ 1 → t′ .prev c ≡ t₀ .prev c
+    dead-prev′ c cl d =
+        let n : c ≢ b = λ e. f .new (rw e at d) in
+        let h = w .prev-other c cl n in
+        let i = f .dead-prev c cl d in
+        omega arith
+
+    -- only the item at place 0 ends a chain, so each other item that does is left
+    others′ : (x : ℕ) → x < m → x ≢ t₀ .queue 0 → t₀ .next x ≡ 0 → t′ .next x ≡ 0
+    others′ x xl n h = go (ℕ-discrete x (t₀ .queue p))
+      where
+        go : Dec (x ≡ t₀ .queue p) → t′ .next x ≡ 0
+        go (yes e) =
+            let i : t₀ .next (t₀ .queue p) ≡ 0 = rw e at h in
+            let z : p ≡ 0 = l .last p (seen-from f v .0) i in
+            absurd (n (rw z at e))
+        go (no ne) = let i = w .next-other x xl ne in let j = f .others x xl n h in omega arith
+
     -- one step back
-    pub flip-on : {c : ℕ} → t .next (t₀ .queue p) ≡ c + 1 → Flipping m R t₀ t′ tail c × (t₀ .via c < t₀ .via b)
+    pub flip-on : {c : ℕ} → t .next (t₀ .queue p) ≡ c + 1 → Flipping m R dead t₀ t′ tail c × (t₀ .via c < t₀ .via b)
     flip-on {c} h = go (l .earlier p c (seen-from f v .0) cl (omega (arith, as-before f v)))
       where
         cl : c < m
@@ -98,10 +116,11 @@ module _ {m : ℕ} {R : ℕ → ℕ → Type 0} {t₀ t : Tables} {tail b : ℕ}
                 let g : t .prev c ≡ x + 1 = rw e at (f .there x y xl yl n .1) in
                 j (omega (arith, old .1))
 
-        go : SeenFrom R t₀ p c → Flipping m R t₀ t′ tail c × (t₀ .via c < t₀ .via b)
-        go (q, ql, u, r) = (
+        go : (dead c ≢ 1) × SeenFrom R t₀ p c → Flipping m R dead t₀ t′ tail c × (t₀ .via c < t₀ .via b)
+        go (n, (q, ql, u, r)) = (
           record {
             below = cl;
+            new = n;
             from = (q, omega (arith, seen-from f v .0), u, r);
             next-le = next-low;
             prev-le = prev-low;
@@ -109,6 +128,8 @@ module _ {m : ℕ} {R : ℕ → ℕ → Type 0} {t₀ t : Tables} {tail b : ℕ}
             back = λ x y xl yl ne i. back′ x y xl yl (λ j. ne (omega arith)) i;
             pairs = pairs′;
             ends = ends′;
+            dead-prev = dead-prev′;
+            others = others′;
             untouched = λ o ol. untouched′ o (omega arith);
           },
           omega arith,
@@ -123,17 +144,26 @@ module _ {m : ℕ} {R : ℕ → ℕ → Type 0} {t₀ t : Tables} {tail b : ℕ}
                 omega arith
 
     -- the last step
-    pub flip-end : t .next (t₀ .queue p) ≡ 0 → Shrunk m R t₀ t′
+    pub flip-end : t .next (t₀ .queue p) ≡ 0 → Extended m R dead t₀ t′ (t₀ .queue 0)
     flip-end h =
         record {
-          matching =
+          shrunk =
               record {
-                next-le = next-low;
-                prev-le = prev-low;
-                there = there′;
-                back = λ x y xl yl i. back′ x y xl yl (λ j. omega arith) i;
+                matching =
+                    record {
+                      next-le = next-low;
+                      prev-le = prev-low;
+                      there = there′;
+                      back = λ x y xl yl i. back′ x y xl yl (λ j. omega arith) i;
+                    };
+                pairs = pairs′;
+                ends = ends′;
+                fewer = (t₀ .queue p, low, omega (arith, as-before f v), omega (arith, w .next-here));
               };
-          pairs = pairs′;
-          ends = ends′;
-          fewer = (t₀ .queue p, low, omega (arith, as-before f v), omega (arith, w .next-here));
+          dead-prev = dead-prev′;
+          others = others′;
+          joined =
+              let z : p ≡ 0 = l .last p (seen-from f v .0) (omega (arith, as-before f v)) in
+              let i : t′ .next (t₀ .queue 0) ≡ b + 1 = rw z at (w .next-here) in
+              omega arith;
         }

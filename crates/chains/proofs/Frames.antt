@@ -3,9 +3,9 @@ use mathlib.Core.Path.{_≡_, sym, _∙_}
 use mathlib.Core.List.{List}
 use Prim.Native.Nat.{ℕ, _+_, _*_, _≤_, _<_}
 use native.Mathlib.Omega.{arith}
-use Rattle.bits.specs.Work.{nextAt, prevAt, viaAt, queueAt, Outside, matrixWords}
-use Rattle.bits.proofs.Frames.{bit-before}
-use Rattle.chains.specs.State.{tables, Pairs}
+use Rattle.bits.specs.Work.{nextAt, prevAt, viaAt, queueAt, deadAt, Outside, matrixWords}
+use Rattle.bits.proofs.Frames.{bit-before, bit-behind}
+use Rattle.chains.specs.State.{tables, deads, Pairs}
 
 module _ {lo hi : ℕ} {w w′ : List ℕ} (o : Outside lo hi w w′) where
   -- a matrix before what is written, forth and back
@@ -21,6 +21,10 @@ module _ {lo hi : ℕ} {w w′ : List ℕ} (o : Outside lo hi w w′) where
 
   pub prev-before : viaAt ≤ lo → (b : ℕ) → b < 256 → tables w′ .prev b ≡ tables w .prev b
   prev-before h b k = o .before (prevAt + b) (omega arith)
+
+  -- what is dead
+  pub dead-behind : hi ≤ deadAt → (b : ℕ) → deads w′ b ≡ deads w b
+  dead-behind h b = bit-behind o deadAt b h
 
   -- the tables behind what is written
   pub via-behind : hi ≤ viaAt → (b : ℕ) → tables w′ .via b ≡ tables w .via b

@@ -1,64 +1,103 @@
--- From single items to as few chains as can be, one chain fewer at a time.
-use mathlib.Core.Path.{_≡_, sym}
-use mathlib.Core.Bool.{true, false}
+-- As few chains as can be, by a search from each item that ends a chain, after the first pairs.
+use mathlib.Core.Path.{_≡_, refl, sym, subst, _∙_}
 use mathlib.Core.Logic.{⊎-elim}
 use mathlib.Core.List.{List}
-use Prim.Native.Nat.{ℕ, _+_, _-_, _<_}
+use Prim.Native.Nat.{ℕ, _+_, _≤_, _<_}
 use native.Mathlib.Omega.{arith}
-use lib.ListN.{getD}
-use Rattle.bits.specs.Bits.{sum}
 use Rattle.bits.specs.Work.{nextAt, Outside, noneAt}
-use Rattle.chains.specs.Items.{Matching}
-use Rattle.chains.specs.State.{tables, Pairs, Sized, ShrunkIn, PairedIn, JoinedIn}
-use Rattle.chains.proofs.Counts.{shrunk-fewer}
 use Rattle.bits.proofs.Frames.{outside-then, outside-wider}
-use Rattle.chains.proofs.Relations.{exhausted-within}
+use Rattle.chains.specs.Items.{Dead}
+use Rattle.chains.specs.State.{tables, deads, Pairs, Sized, ForgottenIn, PairedIn, Extendable, ExtendedIn, Chained, JoinedIn}
+use Rattle.chains.proofs.Deads.{dead-none, dead-moved, dead-exhausted}
+use Rattle.chains.proofs.Relations.{links-none, exhausted-within}
+use Rattle.chains.proofs.Searches.{matching-same}
 use Rattle.chains.proofs.Showing.{matching-kept, same-links, sized-kept, forth, back}
 
--- the chains are of pairs of the matrix; the words were `w₀`
-pub record Joining (w₀ w : List ℕ) (base m : ℕ) : Type 0 where
-  pub sized : Sized w base m
-  pub outside : Outside nextAt noneAt w₀ w
-  pub matching : Matching m (tables w)
-  pub pairs : (a b : ℕ) → a < m → b < m → tables w .next a ≡ b + 1 → Pairs base w₀ a b
-
--- how many chains there are
-abbrev pub chainCount : List ℕ → ℕ → ℕ
-chainCount w m = sum (λ a. 1 - getD w (nextAt + a) 0) m
-
 -- after the first pairs
-pub joining-start : (w w′ : List ℕ) (base m : ℕ) → Sized w base m → PairedIn w w′ base m m → Joining w w′ base m
-joining-start w w′ base m z p =
-    record {
-      sized = sized-kept (p .outside .same-length) z;
-      outside = p .outside;
-      matching = p .pairing .matching;
-      pairs = p .pairing .pairs;
-    }
-
-module _ (w₀ w w′ : List ℕ) (base m : ℕ) (s : Joining w₀ w base m) where
-  z : Sized w₀ base m
-  z = sized-kept (sym (s .outside .same-length)) (s .sized)
-
-  -- one chain fewer
-  pub joining-more : ShrunkIn w w′ base m true → Joining w₀ w′ base m
-  joining-more (o, k) =
+module _ (w w′ : List ℕ) (base m : ℕ) (z : Sized w base m) (p : PairedIn w w′ base m m) where
+  pub chained-pairs : Chained w′ base m
+  chained-pairs =
       record {
-        sized = sized-kept (o .same-length) (s .sized);
-        outside = outside-then (s .outside) o;
-        matching = k .matching;
-        pairs = λ a b al bl h. ⊎-elim (s .pairs a b al bl) (back z (omega arith) (s .outside) a b al bl) (k .pairs a b al bl h);
+        sized = sized-kept (p .outside .same-length) z;
+        matching = p .pairing .matching;
+        pairs = λ a b al bl h. forth z (omega arith) (p .outside) a b al bl (p .pairing .pairs a b al bl h);
       }
 
-  pub joining-less : ShrunkIn w w′ base m true → chainCount w′ m < chainCount w m
-  joining-less (o, k) = shrunk-fewer k
-
-  -- as few as can be
-  pub joining-end : ShrunkIn w w′ base m false → JoinedIn w₀ w′ base m
-  joining-end (o, x) =
+  -- seen from the words before them
+  pub joined-from : (w″ : List ℕ) → JoinedIn w′ w″ base m → JoinedIn w w″ base m
+  joined-from w″ j =
       record {
-        outside = outside-then (s .outside) (outside-wider (omega arith) (omega arith) o);
-        matching = matching-kept o (z .items) (s .matching);
-        pairs = λ a b al bl h. let e = same-links o m (z .items) .next-same a al in s .pairs a b al bl (omega arith);
-        exhausted = exhausted-within (back z (omega arith) (s .outside)) (forth z (omega arith) (s .outside)) x;
+        outside = outside-then (p .outside) (j .outside);
+        matching = j .matching;
+        pairs = λ a b al bl h. back z (omega arith) (p .outside) a b al bl (j .pairs a b al bl h);
+        exhausted = exhausted-within (back z (omega arith) (p .outside)) (forth z (omega arith) (p .outside)) (j .exhausted);
       }
+
+-- the items below `a` have been searched from, and the chains are of pairs of the matrix; the words were `w₀`
+pub record Joining (w₀ w : List ℕ) (base m a : ℕ) : Type 0 where
+  pub up-to : a ≤ m
+  pub outside : Outside nextAt noneAt w₀ w
+  pub extendable : Extendable w base m a
+  pub pairs : (x b : ℕ) → x < m → b < m → tables w .next x ≡ b + 1 → Pairs base w₀ x b
+
+module _ (w₀ : List ℕ) (base m : ℕ) (z : Chained w₀ base m) where
+  pub joining-start : (w : List ℕ) → ForgottenIn w₀ w → Joining w₀ w base m 0
+  joining-start w n =
+      record {
+        up-to = omega arith;
+        outside = outside-wider (omega arith) (omega arith) (n .outside);
+        extendable =
+            record {
+              sized = sized-kept (n .outside .same-length) (z .sized);
+              matching = matching-kept (omega arith) (n .outside) (z .sized .items) (z .matching);
+              seen-dead =
+                  λ b bl.
+                  n .none-seen b (omega (arith, z .sized .items)) ∙ sym (n .none-dead b (omega (arith, z .sized .items)));
+              dead = dead-none (λ b bl. n .none-dead b (omega (arith, z .sized .items))) (λ a al l. absurd (omega arith));
+            };
+        pairs =
+            λ a b al bl h.
+            let e = same-links (omega arith) (n .outside) m (z .sized .items) .next-same a al in
+            z .pairs a b al bl (omega arith);
+      }
+
+  module _ (w : List ℕ) (a : ℕ) (s : Joining w₀ w base m a) where
+    -- the search from `a`
+    pub joining-more : (w′ : List ℕ) → a < m → ExtendedIn w w′ base m a → Joining w₀ w′ base m (a + 1)
+    joining-more w′ al h =
+        record {
+          up-to = omega arith;
+          outside = outside-then (s .outside) (h .outside);
+          extendable =
+              record {
+                sized = sized-kept (h .outside .same-length) (x .sized);
+                matching = ⊎-elim (λ k. matching-same (x .matching) k) (λ k. k .matching) (h .change);
+                seen-dead = h .seen-dead;
+                dead =
+                    dead-moved (forth (x .sized) (omega arith) (h .outside)) (back (x .sized) (omega arith) (h .outside)) links-none
+                    (λ b bl. refl) (h .dead);
+              };
+          pairs =
+              λ y b yl bl e.
+              ⊎-elim (λ k. s .pairs y b yl bl (let f = k .next-same y yl in omega arith))
+              (λ k. ⊎-elim (s .pairs y b yl bl) (back (z .sized) (omega arith) (s .outside) y b yl bl) (k .pairs y b yl bl e)) (h .change);
+        }
+      where
+        x : Extendable w base m a
+        x = s .extendable
+
+    -- all have been searched from
+    pub joining-end : m ≤ a → JoinedIn w₀ w base m
+    joining-end le =
+        record {
+          outside = s .outside;
+          matching = s .extendable .matching;
+          pairs = s .pairs;
+          exhausted =
+              exhausted-within (back (z .sized) (omega arith) (s .outside)) (forth (z .sized) (omega arith) (s .outside))
+              (dead-exhausted (subst (λ (k : ℕ). Dead m (Pairs base w) (tables w) (deads w) k) all (s .extendable .dead))
+              (s .extendable .seen-dead));
+        }
+      where
+        all : a ≡ m
+        all = omega (arith, s .up-to)

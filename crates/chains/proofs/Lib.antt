@@ -3,6 +3,7 @@ pub mod Searches
 pub mod Flips
 pub mod Counts
 pub mod Relations
+pub mod Deads
 pub mod Cycle
 pub mod Members
 pub mod Steps
@@ -11,10 +12,10 @@ pub mod Threads
 pub mod Reports
 pub mod Frames
 pub mod Words
-pub mod Preparing
+pub mod Marks
 pub mod Showing
 pub mod Looking
-pub mod Shrinking
 pub mod Pairs
+pub mod Extending
 pub mod Joining
 pub mod Looping

@@ -1,55 +1,68 @@
 -- A search from one item where each other one stands behind itself: what it leaves for a loop.
-use mathlib.Core.Bool.{Bool, true, false}
+use mathlib.Core.Path.{_≡_, refl, sym, _∙_}
+use mathlib.Core.Logic.{_⊎_, inl, inr, _≢_}
 use mathlib.Core.List.{List}
-use Prim.Native.Nat.{ℕ, _≤_, _<_}
+use Prim.Native.Nat.{ℕ, _+_, _≤_, _<_}
 use native.Mathlib.Omega.{arith}
 use lib.ListN.{length}
-use Rattle.bits.specs.Work.{linksAt, nextAt, usedWords, Matrix, Outside, noneAt}
-use Rattle.paths.specs.Graph.{Graph, Link}
-use Rattle.chains.specs.Items.{Matching, Exhausted}
-use Rattle.chains.specs.Cycles.{Selves}
-use Rattle.chains.specs.State.{tables, Pairs, Sized, SelvesIn, ShrunkIn, LoopedIn}
-use Rattle.chains.proofs.Cycle.{selves-matching, no-way-back}
+use Rattle.bits.specs.Work.{linksAt, nextAt, noneAt, usedWords, matrixWords, Matrix, Outside}
 use Rattle.bits.proofs.Frames.{outside-then, outside-wider}
-use Rattle.chains.proofs.Relations.{Within, exhausted-within, shrunk-within}
-use Rattle.chains.proofs.Searches.{SameLinks}
-use Rattle.chains.proofs.Showing.{same-links, forth, back}
+use Rattle.paths.specs.Graph.{Graph, EndsBelow, Link, Way}
+use Rattle.chains.specs.Items.{SameLinks, Dead, Shrunk}
+use Rattle.chains.specs.Cycles.{Selves}
+use Rattle.chains.specs.State.{tables, deads, Pairs, Sized, ForgottenIn, SelvesIn, Extendable, ExtendedIn, LoopedIn}
+use Rattle.chains.proofs.Cycle.{selves-matching, no-way-back}
+use Rattle.chains.proofs.Deads.{dead-none, dead-moved}
+use Rattle.chains.proofs.Relations.{Within, links-none, links-then, shrunk-within, shrunk-from}
+use Rattle.chains.proofs.Showing.{matching-kept, same-links, sized-kept, forth, back}
 
--- `e` are the words at first, and `w₁` those with each item but `v` behind itself
-module _ (e w₁ : List ℕ) (m v : ℕ) (long : usedWords ≤ length e) (items : m < 256) (s : SelvesIn e w₁ m v) where
-  selves-outside : Outside nextAt noneAt e w₁
-  selves-outside = outside-wider (omega arith) (omega arith) (s .outside)
+-- `e` are the words at first, `w₁` those with each item but `v` behind itself, and in `w₂` besides nothing is seen or dead
+module _ (e w₁ w₂ : List ℕ) (m v : ℕ) (long : usedWords ≤ length e) (items : m < 256) (s : SelvesIn e w₁ m v) (n : ForgottenIn w₁ w₂) where
+  selves-outside : Outside nextAt noneAt e w₂
+  selves-outside = outside-then (outside-wider (omega arith) (omega arith) (s .outside)) (outside-wider (omega arith) (omega arith) (n .outside))
 
-  sized : Sized e linksAt m
-  sized = record { long = long; matrix = omega arith; items = items }
+  sized : (base : ℕ) → base + matrixWords ≤ nextAt → Sized e base m
+  sized base fits = record { long = long; matrix = fits; items = items }
 
-  pub shrink-asked : Sized w₁ linksAt m × Matching m (tables w₁)
-  shrink-asked = (
-    record { long = omega (arith, s .outside .same-length); matrix = omega arith; items = items },
-    selves-matching (s .selves),
-  )
+  links : SameLinks m (tables w₁) (tables w₂)
+  links = same-links (omega arith) (n .outside) m items
+
+  pub extend-asked : (base : ℕ) → base + matrixWords ≤ nextAt → Extendable w₂ base m v
+  extend-asked base fits =
+      record {
+        sized = sized-kept (selves-outside .same-length) (sized base fits);
+        matching = matching-kept (omega arith) (n .outside) items (selves-matching (s .selves));
+        seen-dead = λ b bl. n .none-seen b (omega arith) ∙ sym (n .none-dead b (omega arith));
+        dead =
+            dead-none (λ b bl. n .none-dead b (omega arith))
+            (λ a al l.
+            let f : a ≢ v = λ g. absurd (omega arith) in
+            let g = links .next-same a al in
+            let h = s .selves .next-self a al f in
+            omega arith);
+      }
 
   -- the matrix there is that of the links
   module _ (g : Graph) (k : Matrix linksAt e (Link g)) where
-    sound : Within m (Pairs linksAt w₁) (Link g)
-    sound a b al bl p = k .sound a b (omega arith) (omega arith) (back sized (omega arith) selves-outside a b al bl p)
+    sound : Within m (Pairs linksAt w₂) (Link g)
+    sound a b al bl p = k .sound a b (omega arith) (omega arith) (back (sized linksAt (omega arith)) (omega arith) selves-outside a b al bl p)
 
-    complete : Within m (Link g) (Pairs linksAt w₁)
-    complete a b al bl l = forth sized (omega arith) selves-outside a b al bl (k .complete a b (omega arith) (omega arith) l)
+    complete : Within m (Link g) (Pairs linksAt w₂)
+    complete a b al bl l = forth (sized linksAt (omega arith)) (omega arith) selves-outside a b al bl (k .complete a b (omega arith) (omega arith) l)
 
-  pub looped : (w : List ℕ) (r : Bool) → ShrunkIn w₁ w linksAt m r → LoopedIn e w m v
-  looped w true (o, h) =
+  pub looped : (w : List ℕ) → ExtendedIn w₂ w linksAt m v → LoopedIn e w m v
+  looped w h =
       record {
-        outside = outside-then selves-outside o;
-        shrunk = λ g ends n k way. (tables w₁, s .selves, shrunk-within (sound g k) h);
+        outside = outside-then selves-outside (h .outside);
+        shrunk = λ g ends i k way. (tables w₁, s .selves, go g ends i k way (h .change));
       }
-  looped w false (o, x) =
-      record {
-        outside = outside-then selves-outside (outside-wider (omega arith) (omega arith) o);
-        shrunk =
-            λ g ends n k way.
-            let i : Selves (g .n) (tables w₁) v = rw n (s .selves) in
-            let j : SameLinks (g .n) (tables w₁) (tables w) = rw n (same-links o m items) in
-            let y : Exhausted (g .n) (Link g) (tables w) = rw n (exhausted-within (sound g k) (complete g k) x) in
-            absurd (no-way-back ends i j y way);
-      }
+    where
+      go : (g : Graph) → EndsBelow g → g .n ≡ m → Matrix linksAt e (Link g) → Way g v v
+          → SameLinks m (tables w₂) (tables w) ⊎ Shrunk m (Pairs linksAt w₂) (tables w₂) (tables w) → Shrunk m (Link g) (tables w₁) (tables w)
+      go g ends i k way (inr f) = shrunk-within (sound g k) (shrunk-from links f)
+      go g ends i k way (inl f) =
+          let j : Selves (g .n) (tables w₁) v = rw i (s .selves) in
+          let l : SameLinks (g .n) (tables w₁) (tables w) = rw i (links-then links f) in
+          let x : Dead (g .n) (Link g) (tables w) (deads w) (v + 1) =
+          rw i (dead-moved (sound g k) (complete g k) links-none (λ b bl. refl) (h .dead)) in
+          absurd (no-way-back ends j l x way)

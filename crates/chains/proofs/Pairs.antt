@@ -10,7 +10,7 @@ use Rattle.bits.specs.Bits.{BitSet, NextNew}
 use Rattle.bits.specs.Work.{nextAt, prevAt, viaAt, seenAt, Outside, noneAt}
 use Rattle.bits.proofs.Frames.{outside-none, outside-then, outside-wider, bit-behind}
 use Rattle.chains.specs.Items.{Tables, Pairing, Trail, Flipping, Flipped, Shrunk}
-use Rattle.chains.specs.State.{tables, Pairs, Sized, UnseenIn, PutIn, PairedIn}
+use Rattle.chains.specs.State.{tables, Pairs, Sized, ForgottenIn, PutIn, PairedIn}
 use Rattle.chains.proofs.Flips.{flip-end}
 use Rattle.chains.proofs.Frames.{next-before, prev-before}
 use Rattle.chains.proofs.Relations.{pairing-within}
@@ -47,18 +47,20 @@ module _ {m : ℕ} {R : ℕ → ℕ → Type 0} {t : Tables} {a : ℕ} (s : Pair
       t₀ : Tables
       t₀ = record { next = t .next; prev = t .prev; via = λ c. 1; queue = λ p. a; seen = t .seen }
 
-      trail : Trail m R t₀ 1
+      trail : Trail m R (λ c. 0) t₀ 1
       trail =
           record {
             queued = λ p h. al;
             different = λ p q h k e. omega arith;
             earlier = λ p c h cl e. absurd (omega (arith, last));
+            last = λ p h e. omega arith;
           }
 
-      flipping : Flipping m R t₀ t₀ 1 b
+      flipping : Flipping m R (λ c. 0) t₀ t₀ 1 b
       flipping =
           record {
             below = bl;
+            new = λ e. omega arith;
             from = (0, omega arith, omega arith, r);
             next-le = s .matching .next-le;
             prev-le = s .matching .prev-le;
@@ -66,6 +68,8 @@ module _ {m : ℕ} {R : ℕ → ℕ → Type 0} {t : Tables} {a : ℕ} (s : Pair
             back = λ x c xl cl ne h. s .matching .back x c xl cl h;
             pairs = λ x c xl cl h. inl h;
             ends = λ x xl h. h;
+            dead-prev = λ c cl e. absurd (omega arith);
+            others = λ x xl ne h. h;
             untouched = λ q h. omega arith;
           }
 
@@ -73,7 +77,7 @@ module _ {m : ℕ} {R : ℕ → ℕ → Type 0} {t : Tables} {a : ℕ} (s : Pair
       flipped = record { next-here = w .next-here; next-other = w .next-other; prev-here = w .prev-here; prev-other = w .prev-other }
 
       shrunk : Shrunk m R t₀ t′
-      shrunk = flip-end 0 trail flipping (omega arith) flipped last
+      shrunk = flip-end 0 trail flipping (omega arith) flipped last .shrunk
 
       none : (y : ℕ) → y < m → t′ .seen y ≡ 0 → Dec (y ≡ b) → t′ .prev y ≡ 0
       none y yl h (yes e) = let i : t′ .seen b ≡ 0 = rw e at h in absurd (omega arith)
@@ -126,7 +130,7 @@ module _ (w : List ℕ) (base m a : ℕ) (s : Pairing m (Pairs base w) (tables w
 
 -- ---- the pass; `e` are the words at first, and in `w₀` nothing is seen
 
-pub pairs-start : (e w₀ : List ℕ) (base m : ℕ) → Sized e base m → ((i : ℕ) → nextAt ≤ i → i < viaAt → getD e i 0 ≡ 0) → UnseenIn e w₀
+pub pairs-start : (e w₀ : List ℕ) (base m : ℕ) → Sized e base m → ((i : ℕ) → nextAt ≤ i → i < viaAt → getD e i 0 ≡ 0) → ForgottenIn e w₀
     → PairedIn w₀ w₀ base m 0
 pairs-start e w₀ base m z none u =
     record {
@@ -164,6 +168,6 @@ module _ (w₀ w : List ℕ) (base m a : ℕ) (z : Sized w₀ base m) where
   paired-from w′ o p =
       record { outside = outside-then o (p .outside); pairing = pairing-within (back z (omega arith) o) (p .pairing) }
 
-pub pairs-done : (e w₀ w : List ℕ) (base m a : ℕ) → Sized e base m → UnseenIn e w₀ → PairedIn w₀ w base m a → a ≡ m → PairedIn e w base m m
+pub pairs-done : (e w₀ w : List ℕ) (base m a : ℕ) → Sized e base m → ForgottenIn e w₀ → PairedIn w₀ w base m a → a ≡ m → PairedIn e w base m m
 pairs-done e w₀ w base m a z u p same =
     rw same at (paired-from e w₀ base m a z w (outside-wider (omega arith) (omega arith) (u .outside)) p)

@@ -20,14 +20,9 @@ use Rattle.paths.proofs.Numbers.{nodup-below}
 use Rattle.chains.specs.Items.{
   Tables,
   Matching,
-  Open,
-  Reached,
-  from-end,
-  from-next,
-  Exhausted,
+  SameLinks,
   SeenFrom,
   Searching,
-  Prepared,
   Saw,
   Trail,
   Flipping,
@@ -68,11 +63,6 @@ injective-le k m f low different =
     let e : length (values f k) ≡ k = length-values f k in
     omega arith
 
--- two tables with the same chains
-pub record SameLinks (m : ℕ) (t t′ : Tables) : Type 0 where
-  pub next-same : (a : ℕ) → a < m → t′ .next a ≡ t .next a
-  pub prev-same : (b : ℕ) → b < m → t′ .prev b ≡ t .prev b
-
 pub matching-same : {m : ℕ} {t t′ : Tables} → Matching m t → SameLinks m t t′ → Matching m t′
 matching-same k s =
     record {
@@ -98,34 +88,35 @@ saw-same w = record { next-same = w .next-same; prev-same = w .prev-same }
 pub saw-matching : {m : ℕ} {t t′ : Tables} {head b tail : ℕ} → Matching m t → Saw m t t′ head b tail → Matching m t′
 saw-matching k w = matching-same k (saw-same w)
 
-pub prepared-searching : {m : ℕ} {R : ℕ → ℕ → Type 0} {t : Tables} {tail : ℕ} → Prepared m t tail → Searching m R t 0 0 tail
-prepared-searching {m} {R} {t} {tail} k =
+-- before a search from `a`: only what is dead is seen
+pub search-start : {m : ℕ} {R : ℕ → ℕ → Type 0} {dead : ℕ → ℕ} {t : Tables} (a : ℕ) → a < m → t .next a ≡ 0 → t .queue 0 ≡ a
+    → ((b : ℕ) → b < m → t .seen b ≡ dead b) → ((b : ℕ) → b < m → dead b ≡ 1 → 0 < t .prev b) → Searching m R dead t 0 0 1
+search-start {m} {R} {dead} {t} a al z q same kept =
     record {
       head-le = omega arith;
-      tail-le = k .tail-le;
-      queued = k .queued;
-      different = λ p q pl ql e. apart p q pl ql e (decLt p q) (decLt q p);
-      opened = λ p pl. inl (k .ending p pl);
-      all-open = λ a al o. ⊎-elim (k .all a al) (λ s. none (s .0) (s .1) (s .3)) o;
-      kept = λ b bl h. none b bl h;
-      came = λ b bl h. none b bl h;
+      tail-le = omega arith;
+      queued = λ p pl. rw (at p pl) al;
+      different = λ p q pl ql e. omega arith;
+      opened = λ p pl. inl (omega arith, rw (at p pl) z);
+      all-open = λ x b xl bl h s n. none b bl s n;
+      old = λ b bl h. omega (arith, same b bl);
+      kept = λ b bl h. kept b bl (omega (arith, same b bl));
+      came = λ b bl h n. none b bl h n;
       shown = λ p b pl bl r. absurd (omega arith);
       showing = λ b l bl r. absurd (omega arith);
     }
   where
-    none : {A : Type 0} (b : ℕ) → b < m → t .seen b ≡ 1 → A
-    none b bl h = let u = k .unseen b bl in let bad : ⊥ = omega arith in absurd bad
+    none : {A : Type 0} (b : ℕ) → b < m → t .seen b ≡ 1 → dead b ≢ 1 → A
+    none b bl h n = absurd (n (omega (arith, same b bl)))
 
-    apart : (p q : ℕ) → p < tail → q < tail → t .queue p ≡ t .queue q → Dec (p < q) → Dec (q < p) → p ≡ q
-    apart p q pl ql e (yes l) d = let r = k .rising p q l ql in let bad : ⊥ = omega arith in absurd bad
-    apart p q pl ql e (no nl) (yes l) = let r = k .rising q p l pl in let bad : ⊥ = omega arith in absurd bad
-    apart p q pl ql e (no nl) (no ng) = omega arith
+    at : (p : ℕ) → p < 1 → t .queue p ≡ a
+    at p pl = let e : p ≡ 0 = omega arith in rw e q
 
-module _ {m : ℕ} {R : ℕ → ℕ → Type 0} {t : Tables} {head from tail : ℕ} where
+module _ {m : ℕ} {R : ℕ → ℕ → Type 0} {dead : ℕ → ℕ} {t : Tables} {head from tail : ℕ} where
   -- an item that the search comes upon, with an item before it
-  pub saw-searching : {t′ : Tables} {b : ℕ} → Matching m t → Searching m R t head from tail → Saw m t t′ head b tail → head < tail → b < m
+  pub saw-searching : {t′ : Tables} {b : ℕ} → Matching m t → Searching m R dead t head from tail → Saw m t t′ head b tail → head < tail → b < m
       → t .seen b ≡ 0 → 0 < t .prev b → R (t .queue head) b
-      → ((c : ℕ) → from ≤ c → c < b → R (t .queue head) c → t .seen c ≡ 1) → Searching m R t′ head (b + 1) (tail + 1)
+      → ((c : ℕ) → from ≤ c → c < b → R (t .queue head) c → t .seen c ≡ 1) → Searching m R dead t′ head (b + 1) (tail + 1)
   saw-searching {t′} {b} k s w hd bl new pos r gap =
       record {
         head-le = omega arith;
@@ -133,9 +124,10 @@ module _ {m : ℕ} {R : ℕ → ℕ → Type 0} {t : Tables} {head from tail : �
         queued = queued;
         different = different;
         opened = λ p h. opened p h (ℕ-discrete p tail);
-        all-open = all-open;
+        all-open = λ a c al cl g sc n. all-open a c al cl g sc n (ℕ-discrete c b);
+        old = λ c cl h. stays c cl (s .old c cl h);
         kept = λ c cl h. kept c cl h (ℕ-discrete c b);
-        came = λ c cl h. came c cl h (ℕ-discrete c b);
+        came = λ c cl h n. came c cl h n (ℕ-discrete c b);
         shown = λ p c h cl q. stays c cl (s .shown p c h cl (rw (w .queue-same p (omega arith)) at q));
         showing = λ c h cl q. showing c h cl (rw (w .queue-same head hd) at q) (ℕ-discrete c b) (decLt c from);
       }
@@ -148,13 +140,13 @@ module _ {m : ℕ} {R : ℕ → ℕ → Type 0} {t : Tables} {head from tail : �
 
       -- the new item was not in the queue: the one behind it was not seen
       fresh : (p : ℕ) → p < tail → t .queue p ≡ t′ .queue tail → ⊥
-      fresh p h e = ⊎-elim (λ z. omega (arith, f)) seen (s .opened p h)
+      fresh p h e = ⊎-elim (λ z. omega (arith, f, z .1)) seen (s .opened p h)
         where
           f : t .next (t .queue p) ≡ b + 1
           f = rw e behind
 
-          seen : (c : ℕ) × (c < m) × (t .next (t .queue p) ≡ c + 1) × (t .seen c ≡ 1) × (t .via c ≤ p) → ⊥
-          seen (c, cl, g, sc, v) =
+          seen : (c : ℕ) × (c < m) × (t .next (t .queue p) ≡ c + 1) × (t .seen c ≡ 1) × (dead c ≢ 1) × (t .via c ≤ p) → ⊥
+          seen (c, cl, g, sc, n, v) =
               let same : c ≡ b = omega (arith, f) in
               let h : t .seen b ≡ 1 = rw same at sc in
               omega arith
@@ -197,36 +189,34 @@ module _ {m : ℕ} {R : ℕ → ℕ → Type 0} {t : Tables} {head from tail : �
       stays c cl h = let e = w .seen-other c cl (not-new c h) in omega arith
 
       opened : (p : ℕ) → p < tail + 1 → Dec (p ≡ tail)
-          → (t′ .next (t′ .queue p) ≡ 0)
-          ⊎ ((c : ℕ) × (c < m) × (t′ .next (t′ .queue p) ≡ c + 1) × (t′ .seen c ≡ 1) × (t′ .via c ≤ p))
+          → ((p ≡ 0) × (t′ .next (t′ .queue p) ≡ 0))
+          ⊎ ((c : ℕ) × (c < m) × (t′ .next (t′ .queue p) ≡ c + 1) × (t′ .seen c ≡ 1) × (dead c ≢ 1) × (t′ .via c ≤ p))
       opened p h (yes e) =
           let f = w .next-same (t′ .queue tail) low in
           let v = w .via-here in
-          inr (b, bl, rw e (omega (arith, behind)), w .seen-here, omega arith)
+          inr (b, bl, rw e (omega (arith, behind)), w .seen-here, λ d. absurd (omega (arith, s .old b bl d)), omega arith)
       opened p h (no ne) =
           let l : p < tail = omega arith in
           let e = w .queue-same p l in
           let f = w .next-same (t .queue p) (s .queued p l) in
-          ⊎-elim (λ z. inl (cc))
-          (λ (c, cl, g, sc, v).
+          ⊎-elim (λ (i, z). inl (i, cc))
+          (λ (c, cl, g, sc, n, v).
           let u = w .via-other c cl (not-new c sc) in
-          inr (c, cl, cc, stays c cl sc, omega arith)) (s .opened p l)
+          inr (c, cl, cc, stays c cl sc, n, omega arith)) (s .opened p l)
 
-      all-open : (a : ℕ) → a < m → Open m t′ a → (p : ℕ) × (p < tail + 1) × (t′ .queue p ≡ a)
-      all-open a al o = ⊎-elim (λ z. old (inl (omega (arith, e)))) (λ (c, cl, g, sc). go c cl g sc (ℕ-discrete c b)) o
-        where
-          e : t′ .next a ≡ t .next a
-          e = w .next-same a al
-
-          old : Open m t a → (p : ℕ) × (p < tail + 1) × (t′ .queue p ≡ a)
-          old q = let (p, pl, f) = s .all-open a al q in let g = w .queue-same p pl in (p, omega arith, cc)
-
-          go : (c : ℕ) → c < m → t′ .next a ≡ c + 1 → t′ .seen c ≡ 1 → Dec (c ≡ b) → (p : ℕ) × (p < tail + 1) × (t′ .queue p ≡ a)
-          go c cl g sc (yes f) =
-              let h : t .prev b ≡ a + 1 = k .there a b al bl (omega (arith, e)) in
-              let l = w .queue-last pos in
-              (tail, omega arith, omega arith)
-          go c cl g sc (no nf) = let f = w .seen-other c cl nf in old (inr (c, cl, omega (arith, e), omega arith))
+      all-open : (a c : ℕ) → a < m → c < m → t′ .next a ≡ c + 1 → t′ .seen c ≡ 1 → dead c ≢ 1 → Dec (c ≡ b)
+          → (p : ℕ) × (p < tail + 1) × (t′ .queue p ≡ a)
+      all-open a c al cl g sc n (yes f) =
+          let e = w .next-same a al in
+          let h : t .prev b ≡ a + 1 = k .there a b al bl (omega arith) in
+          let l = w .queue-last pos in
+          (tail, omega arith, omega arith)
+      all-open a c al cl g sc n (no nf) =
+          let e = w .next-same a al in
+          let f = w .seen-other c cl nf in
+          let (p, pl, h) = s .all-open a c al cl (omega arith) (omega arith) n in
+          let q = w .queue-same p pl in
+          (p, omega arith, cc)
 
       kept : (c : ℕ) → c < m → t′ .seen c ≡ 1 → Dec (c ≡ b) → 0 < t′ .prev c
       kept c cl h (yes e) = let f = w .prev-same b bl in rw e (omega arith)
@@ -236,12 +226,12 @@ module _ {m : ℕ} {R : ℕ → ℕ → Type 0} {t : Tables} {head from tail : �
           let i = s .kept c cl (omega arith) in
           omega arith
 
-      came : (c : ℕ) → c < m → t′ .seen c ≡ 1 → Dec (c ≡ b) → SeenFrom R t′ (tail + 1) c
-      came c cl h (yes e) = (head, omega arith, rw e (w .via-here), rw (e, w .queue-same head hd) r)
-      came c cl h (no ne) =
+      came : (c : ℕ) → c < m → t′ .seen c ≡ 1 → dead c ≢ 1 → Dec (c ≡ b) → SeenFrom R t′ (tail + 1) c
+      came c cl h n (yes e) = (head, omega arith, rw e (w .via-here), rw (e, w .queue-same head hd) r)
+      came c cl h n (no ne) =
           let g = w .seen-other c cl ne in
           let u = w .via-other c cl ne in
-          let (p, pl, v, q) = s .came c cl (omega arith) in
+          let (p, pl, v, q) = s .came c cl (omega arith) n in
           (p, omega arith, omega arith, rw (w .queue-same p pl) q)
 
       showing : (c : ℕ) → c < b + 1 → c < m → R (t .queue head) c → Dec (c ≡ b) → Dec (c < from) → t′ .seen c ≡ 1
@@ -250,8 +240,8 @@ module _ {m : ℕ} {R : ℕ → ℕ → Type 0} {t : Tables} {head from tail : �
       showing c h cl q (no ne) (no nl) = stays c cl (gap c (omega arith) (omega arith) q)
 
   -- the item at `head` has shown all
-  pub item-done : Searching m R t head from tail → head < tail
-      → ((c : ℕ) → from ≤ c → c < m → R (t .queue head) c → t .seen c ≡ 1) → Searching m R t (head + 1) 0 tail
+  pub item-done : Searching m R dead t head from tail → head < tail
+      → ((c : ℕ) → from ≤ c → c < m → R (t .queue head) c → t .seen c ≡ 1) → Searching m R dead t (head + 1) 0 tail
   item-done s hd gap =
       record {
         head-le = omega arith;
@@ -260,6 +250,7 @@ module _ {m : ℕ} {R : ℕ → ℕ → Type 0} {t : Tables} {head from tail : �
         different = s .different;
         opened = s .opened;
         all-open = s .all-open;
+        old = s .old;
         kept = s .kept;
         came = s .came;
         shown = λ p b h bl r. go p b h bl r (ℕ-discrete p head) (decLt b from);
@@ -272,8 +263,8 @@ module _ {m : ℕ} {R : ℕ → ℕ → Type 0} {t : Tables} {head from tail : �
       go p b h bl r (yes e) (no nl) = gap b (omega arith) bl (rw e at r)
 
   -- an item that the search comes upon, with no item before it: the way back can be taken
-  pub found : {t′ : Tables} {b : ℕ} → Matching m t → Searching m R t head from tail → Saw m t t′ head b tail → head < tail → b < m
-      → t .seen b ≡ 0 → t .prev b ≡ 0 → R (t .queue head) b → Trail m R t′ tail × Flipping m R t′ t′ tail b
+  pub found : {t′ : Tables} {b : ℕ} → Matching m t → Searching m R dead t head from tail → Saw m t t′ head b tail → head < tail → b < m
+      → t .seen b ≡ 0 → t .prev b ≡ 0 → R (t .queue head) b → Trail m R dead t′ tail × Flipping m R dead t′ t′ tail b
   found {t′} {b} k s w hd bl new first r = (
     record {
       queued = λ p pl. rw (w .queue-same p pl) (s .queued p pl);
@@ -283,9 +274,11 @@ module _ {m : ℕ} {R : ℕ → ℕ → Type 0} {t : Tables} {head from tail : �
           let g = w .queue-same q ql in
           s .different p q pl ql (cc);
       earlier = earlier;
+      last = last;
     },
     record {
       below = bl;
+      new = λ d. absurd (omega (arith, s .old b bl d));
       from = (head, hd, w .via-here, rw (w .queue-same head hd) r);
       next-le = k′ .next-le;
       prev-le = k′ .prev-le;
@@ -293,6 +286,8 @@ module _ {m : ℕ} {R : ℕ → ℕ → Type 0} {t : Tables} {head from tail : �
       back = λ a c al cl ne h. k′ .back a c al cl h;
       pairs = λ a c al cl h. inl h;
       ends = λ a al h. h;
+      dead-prev = λ c cl d. refl;
+      others = λ x xl n h. h;
       untouched = λ q h. refl;
     },
   )
@@ -306,35 +301,27 @@ module _ {m : ℕ} {R : ℕ → ℕ → Type 0} {t : Tables} {head from tail : �
           let h = w .prev-same b bl in
           omega arith
 
-      earlier : (p c : ℕ) → p < tail → c < m → t′ .next (t′ .queue p) ≡ c + 1 → SeenFrom R t′ p c
-      earlier p c pl cl h = ⊎-elim (λ z. let bad : ⊥ = omega (arith, e) in absurd bad) go (s .opened p pl)
+      earlier : (p c : ℕ) → p < tail → c < m → t′ .next (t′ .queue p) ≡ c + 1 → (dead c ≢ 1) × SeenFrom R t′ p c
+      earlier p c pl cl h = ⊎-elim (λ z. let bad : ⊥ = omega (arith, e, z .1) in absurd bad) go (s .opened p pl)
         where
           e : t .next (t .queue p) ≡ c + 1
           e = let f = w .queue-same p pl in let g = w .next-same (t .queue p) (s .queued p pl) in cc
 
-          go : (d : ℕ) × (d < m) × (t .next (t .queue p) ≡ d + 1) × (t .seen d ≡ 1) × (t .via d ≤ p) → SeenFrom R t′ p c
-          go (d, dl, g, sd, v) =
+          go : (d : ℕ) × (d < m) × (t .next (t .queue p) ≡ d + 1) × (t .seen d ≡ 1) × (dead d ≢ 1) × (t .via d ≤ p)
+              → (dead c ≢ 1) × SeenFrom R t′ p c
+          go (d, dl, g, sd, n, v) =
               let same : d ≡ c = omega (arith, e) in
               let sc : t .seen c ≡ 1 = rw same at sd in
               let vc : t .via c ≤ p = rw same at v in
               let other : c ≢ b = λ f. let i : t .seen b ≡ 1 = rw f at sc in omega arith in
               let u = w .via-other c cl other in
-              let (q, ql, i, j) = s .came c cl sc in
-              (q, omega arith, omega arith, rw (w .queue-same q ql) j)
+              let nc : dead c ≢ 1 = rw same at n in
+              let (q, ql, i, j) = s .came c cl sc nc in
+              (nc, (q, omega arith, omega arith, rw (w .queue-same q ql) j))
 
--- a search that has shown all of its queue is exhausted
-pub exhausted : {m : ℕ} {R : ℕ → ℕ → Type 0} {t : Tables} {tail : ℕ} → Searching m R t tail 0 tail → Exhausted m R t
-exhausted {m} {R} {t} {tail} s =
-    record {
-      closed =
-          λ a b al bl o r. let (p, pl, e) = s .all-open a al o in s .shown p b pl bl (rw e r);
-      kept = s .kept;
-      sound = λ b bl h. sound (t .via b + 1) b bl h (omega arith);
-    }
-  where
-    sound : (k b : ℕ) → b < m → t .seen b ≡ 1 → t .via b < k → Reached m R (t .next) b
-    sound zero b bl h l = absurd (omega arith)
-    sound (suc k) b bl h l =
-        let (p, pl, v, r) = s .came b bl h in
-        ⊎-elim (λ e. from-end (s .queued p pl) bl e r)
-        (λ (c, cl, e, sc, u). from-next (s .queued p pl) bl cl e (sound k c cl sc (omega arith)) r) (s .opened p pl)
+      last : (p : ℕ) → p < tail → t′ .next (t′ .queue p) ≡ 0 → p ≡ 0
+      last p pl h =
+          let f = w .queue-same p pl in
+          let g = w .next-same (t .queue p) (s .queued p pl) in
+          let e : t .next (t .queue p) ≡ 0 = cc in
+          ⊎-elim (λ z. z .0) (λ (c, cl, i, sc, n, v). let bad : ⊥ = omega arith in absurd bad) (s .opened p pl)

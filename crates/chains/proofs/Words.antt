@@ -8,7 +8,7 @@ use native.Mathlib.Omega.{arith}
 use lib.ListN.{length, getD, set, length-set}
 use lib.Seq.{getD-set-same, getD-set-other}
 use Rattle.bits.specs.Bits.{bit, BitSet}
-use Rattle.bits.specs.Work.{nextAt, prevAt, viaAt, queueAt, seenAt, usedWords, Outside, noneAt}
+use Rattle.bits.specs.Work.{nextAt, prevAt, viaAt, queueAt, seenAt, deadAt, usedWords, Outside}
 use Rattle.chains.specs.Items.{Flipped}
 use Rattle.chains.specs.State.{tables, PutIn, SawIn, SelvesIn}
 use Rattle.bits.proofs.Frames.{outside-none, outside-then, outside-set, outside-more, bit-stored}
@@ -35,7 +35,7 @@ module _ (w w₁ : List ℕ) (head b tail : ℕ) (fits : usedWords ≤ length w)
   seen-prev : getD seenWords (prevAt + b) 0 ≡ getD w (prevAt + b) 0
   seen-prev = seen-word (prevAt + b) (λ e. absurd (omega arith)) (λ e. absurd (omega arith))
 
-  seen-outside : Outside viaAt noneAt w seenWords
+  seen-outside : Outside viaAt deadAt w seenWords
   seen-outside =
       record {
         same-length = length-set w₁ (viaAt + b) (head + 1) ∙ s .same-length;

@@ -47,7 +47,22 @@ pub data Reached (m : ℕ) (R : ℕ → ℕ → Type 0) (next : ℕ → ℕ) : �
   from-end : {a b : ℕ} → a < m → b < m → next a ≡ 0 → R a b → Reached m R next b
   from-next : {a b c : ℕ} → a < m → b < m → c < m → next a ≡ c + 1 → Reached m R next c → R a b → Reached m R next b
 
--- A search that has found nothing: what it has seen is all that can be reached, and each of it has an item before it.
+-- R without the pairs of those items that end a chain and are not below `k`
+abbrev pub Before : ℕ → (ℕ → ℕ) → (ℕ → ℕ → Type 0) → ℕ → ℕ → Type 0
+Before k next R a b = (next a ≡ 0 → a < k) × R a b
+
+-- `a` ends its chain and is below `k`, or the item behind it is dead
+abbrev pub Spent : ℕ → Tables → (ℕ → ℕ) → ℕ → ℕ → Type 0
+Spent m t dead k a = ((a < k) × (t .next a ≡ 0)) ⊎ ((c : ℕ) × (c < m) × (t .next a ≡ c + 1) × (dead c ≡ 1))
+
+-- The items below `k` that end a chain have been searched from in vain: what can be reached from them is dead, and each of it has an item
+-- before it.
+pub record Dead (m : ℕ) (R : ℕ → ℕ → Type 0) (t : Tables) (dead : ℕ → ℕ) (k : ℕ) : Type 0 where
+  pub closed : (a b : ℕ) → a < m → b < m → Spent m t dead k a → R a b → dead b ≡ 1
+  pub kept : (b : ℕ) → b < m → dead b ≡ 1 → 0 < t .prev b
+  pub sound : (b : ℕ) → b < m → dead b ≡ 1 → Reached m (Before k (t .next) R) (t .next) b
+
+-- All items that end a chain have been searched from in vain: what is seen is all that can be reached, and each of it has an item before it.
 pub record Exhausted (m : ℕ) (R : ℕ → ℕ → Type 0) (t : Tables) : Type 0 where
   pub closed : (a b : ℕ) → a < m → b < m → Open m t a → R a b → t .seen b ≡ 1
   pub kept : (b : ℕ) → b < m → t .seen b ≡ 1 → 0 < t .prev b
@@ -57,29 +72,28 @@ pub record Exhausted (m : ℕ) (R : ℕ → ℕ → Type 0) (t : Tables) : Type 
 abbrev pub SeenFrom : (ℕ → ℕ → Type 0) → Tables → ℕ → ℕ → Type 0
 SeenFrom R t tail b = (p : ℕ) × (p < tail) × (t .via b ≡ p + 1) × R (t .queue p) b
 
--- The state of a search. The queue holds the open items; those before `head` have shown all that they have in R, and the one at `head`
--- what of it is below `from`.
-pub record Searching (m : ℕ) (R : ℕ → ℕ → Type 0) (t : Tables) (head from tail : ℕ) : Type 0 where
+-- The state of a search from the item at place 0 of the queue. What was dead before it is seen. The queue holds that item and those
+-- whose next is seen and was not dead; those before `head` have shown all that they have in R, and the one at `head` what of it is
+-- below `from`.
+pub record Searching (m : ℕ) (R : ℕ → ℕ → Type 0) (dead : ℕ → ℕ) (t : Tables) (head from tail : ℕ) : Type 0 where
   pub head-le : head ≤ tail
   pub tail-le : tail ≤ m
   pub queued : (p : ℕ) → p < tail → t .queue p < m
   pub different : (p q : ℕ) → p < tail → q < tail → t .queue p ≡ t .queue q → p ≡ q
   pub opened : (p : ℕ) → p < tail
-      → (t .next (t .queue p) ≡ 0) ⊎ ((b : ℕ) × (b < m) × (t .next (t .queue p) ≡ b + 1) × (t .seen b ≡ 1) × (t .via b ≤ p))
-  pub all-open : (a : ℕ) → a < m → Open m t a → (p : ℕ) × (p < tail) × (t .queue p ≡ a)
+      → ((p ≡ 0) × (t .next (t .queue p) ≡ 0))
+      ⊎ ((b : ℕ) × (b < m) × (t .next (t .queue p) ≡ b + 1) × (t .seen b ≡ 1) × (dead b ≢ 1) × (t .via b ≤ p))
+  pub all-open : (a b : ℕ) → a < m → b < m → t .next a ≡ b + 1 → t .seen b ≡ 1 → dead b ≢ 1 → (p : ℕ) × (p < tail) × (t .queue p ≡ a)
+  pub old : (b : ℕ) → b < m → dead b ≡ 1 → t .seen b ≡ 1
   pub kept : (b : ℕ) → b < m → t .seen b ≡ 1 → 0 < t .prev b
-  pub came : (b : ℕ) → b < m → t .seen b ≡ 1 → SeenFrom R t tail b
+  pub came : (b : ℕ) → b < m → t .seen b ≡ 1 → dead b ≢ 1 → SeenFrom R t tail b
   pub shown : (p b : ℕ) → p < head → b < m → R (t .queue p) b → t .seen b ≡ 1
   pub showing : (b : ℕ) → b < from → b < m → R (t .queue head) b → t .seen b ≡ 1
 
--- Before a search: nothing is seen, and the queue holds the items that end a chain, rising.
-pub record Prepared (m : ℕ) (t : Tables) (tail : ℕ) : Type 0 where
-  pub tail-le : tail ≤ m
-  pub queued : (p : ℕ) → p < tail → t .queue p < m
-  pub rising : (p q : ℕ) → p < q → q < tail → t .queue p < t .queue q
-  pub ending : (p : ℕ) → p < tail → t .next (t .queue p) ≡ 0
-  pub all : (a : ℕ) → a < m → t .next a ≡ 0 → (p : ℕ) × (p < tail) × (t .queue p ≡ a)
-  pub unseen : (b : ℕ) → b < m → t .seen b ≡ 0
+-- two tables with the same chains
+pub record SameLinks (m : ℕ) (t t′ : Tables) : Type 0 where
+  pub next-same : (a : ℕ) → a < m → t′ .next a ≡ t .next a
+  pub prev-same : (b : ℕ) → b < m → t′ .prev b ≡ t .prev b
 
 -- `b` becomes seen from the place `head`; where it has an item before it, that goes into the queue at `tail`.
 pub record Saw (m : ℕ) (t t′ : Tables) (head b tail : ℕ) : Type 0 where
@@ -92,11 +106,13 @@ pub record Saw (m : ℕ) (t t′ : Tables) (head b tail : ℕ) : Type 0 where
   pub seen-here : t′ .seen b ≡ 1
   pub seen-other : (c : ℕ) → c < m → c ≢ b → t′ .seen c ≡ t .seen c
 
--- What a search leaves for going back: the item behind that at place `p` was seen from an earlier place.
-pub record Trail (m : ℕ) (R : ℕ → ℕ → Type 0) (t : Tables) (tail : ℕ) : Type 0 where
+-- What a search leaves for going back: the item behind that at place `p` was not dead and was seen from an earlier place; only the one at
+-- place 0 ends a chain.
+pub record Trail (m : ℕ) (R : ℕ → ℕ → Type 0) (dead : ℕ → ℕ) (t : Tables) (tail : ℕ) : Type 0 where
   pub queued : (p : ℕ) → p < tail → t .queue p < m
   pub different : (p q : ℕ) → p < tail → q < tail → t .queue p ≡ t .queue q → p ≡ q
-  pub earlier : (p b : ℕ) → p < tail → b < m → t .next (t .queue p) ≡ b + 1 → SeenFrom R t p b
+  pub earlier : (p b : ℕ) → p < tail → b < m → t .next (t .queue p) ≡ b + 1 → (dead b ≢ 1) × SeenFrom R t p b
+  pub last : (p : ℕ) → p < tail → t .next (t .queue p) ≡ 0 → p ≡ 0
 
 -- One chain fewer: the chains are sound again, what stands behind an item stood there before or the item has it in R, and of the items
 -- that ended a chain one does so no longer.
@@ -106,10 +122,18 @@ pub record Shrunk (m : ℕ) (R : ℕ → ℕ → Type 0) (t t′ : Tables) : Typ
   pub ends : (a : ℕ) → a < m → t′ .next a ≡ 0 → t .next a ≡ 0
   pub fewer : (a : ℕ) × (a < m) × (t .next a ≡ 0) × (0 < t′ .next a)
 
+-- It is the chain that `a` ended: the others still end where they did, and the dead items have the same items before them.
+pub record Extended (m : ℕ) (R : ℕ → ℕ → Type 0) (dead : ℕ → ℕ) (t t′ : Tables) (a : ℕ) : Type 0 where
+  pub shrunk : Shrunk m R t t′
+  pub dead-prev : (c : ℕ) → c < m → dead c ≡ 1 → t′ .prev c ≡ t .prev c
+  pub others : (x : ℕ) → x < m → x ≢ a → t .next x ≡ 0 → t′ .next x ≡ 0
+  pub joined : 0 < t′ .next a
+
 -- On the way there from `t₀`: no item stands before `b`, and the chains are sound elsewhere. The items of the queue's places up to
 -- that from which `b` was seen have been left as they were.
-pub record Flipping (m : ℕ) (R : ℕ → ℕ → Type 0) (t₀ t : Tables) (tail b : ℕ) : Type 0 where
+pub record Flipping (m : ℕ) (R : ℕ → ℕ → Type 0) (dead : ℕ → ℕ) (t₀ t : Tables) (tail b : ℕ) : Type 0 where
   pub below : b < m
+  pub new : dead b ≢ 1
   pub from : SeenFrom R t₀ tail b
   pub next-le : (a : ℕ) → a < m → t .next a ≤ m
   pub prev-le : (c : ℕ) → c < m → t .prev c ≤ m
@@ -117,6 +141,8 @@ pub record Flipping (m : ℕ) (R : ℕ → ℕ → Type 0) (t₀ t : Tables) (ta
   pub back : (a c : ℕ) → a < m → c < m → c ≢ b → t .prev c ≡ a + 1 → t .next a ≡ c + 1
   pub pairs : (a c : ℕ) → a < m → c < m → t .next a ≡ c + 1 → (t₀ .next a ≡ c + 1) ⊎ R a c
   pub ends : (a : ℕ) → a < m → t .next a ≡ 0 → t₀ .next a ≡ 0
+  pub dead-prev : (c : ℕ) → c < m → dead c ≡ 1 → t .prev c ≡ t₀ .prev c
+  pub others : (x : ℕ) → x < m → x ≢ t₀ .queue 0 → t₀ .next x ≡ 0 → t .next x ≡ 0
   pub untouched : (q : ℕ) → q < t₀ .via b → t .next (t₀ .queue q) ≡ t₀ .next (t₀ .queue q)
 
 -- `b` is put behind `a`

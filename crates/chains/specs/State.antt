@@ -1,13 +1,39 @@
 -- The tables of the search in the work words, and what each function of the search leaves there.
 use mathlib.Core.Path.{_≡_}
-use mathlib.Core.Bool.{Bool, true, false}
+use mathlib.Core.Logic.{_⊎_}
 use mathlib.Core.List.{List}
 use Prim.Native.Nat.{ℕ, _+_, _-_, _*_, _≤_, _<_}
 use lib.ListN.{length, getD}
 use Rattle.paths.specs.Graph.{Graph, EndsBelow, Link, Way}
 use Rattle.bits.specs.Bits.{bit}
-use Rattle.bits.specs.Work.{linksAt, nextAt, prevAt, viaAt, queueAt, seenAt, usedWords, Matrix, Outside, noneAt, matrixWords}
-use Rattle.chains.specs.Items.{Tables, Matching, Pairing, Exhausted, Searching, Prepared, Saw, Trail, Flipping, Flipped, Shrunk}
+use Rattle.bits.specs.Work.{
+  linksAt,
+  nextAt,
+  prevAt,
+  viaAt,
+  queueAt,
+  seenAt,
+  deadAt,
+  usedWords,
+  Matrix,
+  Outside,
+  noneAt,
+  matrixWords,
+}
+use Rattle.chains.specs.Items.{
+  Tables,
+  SameLinks,
+  Matching,
+  Pairing,
+  Dead,
+  Exhausted,
+  Searching,
+  Saw,
+  Trail,
+  Flipping,
+  Flipped,
+  Shrunk,
+}
 use Rattle.chains.specs.Cycles.{Selves}
 
 -- the tables in the work words
@@ -21,6 +47,10 @@ tables w =
       seen = λ b. bit w seenAt b;
     }
 
+-- what is dead, in the work words
+abbrev pub deads : List ℕ → ℕ → ℕ
+deads w b = bit w deadAt b
+
 -- the pairs of the matrix at `base`
 abbrev pub Pairs : ℕ → List ℕ → ℕ → ℕ → Type 0
 Pairs base w a b = bit w (base + 8 * a) b ≡ 1
@@ -31,40 +61,47 @@ pub record Sized (w : List ℕ) (base m : ℕ) : Type 0 where
   pub matrix : base + matrixWords ≤ nextAt
   pub items : m < 256
 
--- nothing is seen
-pub record UnseenIn (w w′ : List ℕ) : Type 0 where
-  pub outside : Outside seenAt noneAt w w′
-  pub unseen : (b : ℕ) → b < 256 → tables w′ .seen b ≡ 0
-
 -- `b` is put behind `a`
 pub record PutIn (w w′ : List ℕ) (a b : ℕ) : Type 0 where
   pub outside : Outside nextAt viaAt w w′
   pub flipped : Flipped 256 (tables w) (tables w′) a b
 
--- the queue and what is seen, before a search
-pub record PreparedIn (w w′ : List ℕ) (m tail : ℕ) : Type 0 where
-  pub outside : Outside queueAt noneAt w w′
-  pub prepared : Prepared m (tables w′) tail
+-- nothing is seen and nothing is dead
+pub record ForgottenIn (w w′ : List ℕ) : Type 0 where
+  pub outside : Outside seenAt noneAt w w′
+  pub none-seen : (b : ℕ) → b < 256 → tables w′ .seen b ≡ 0
+  pub none-dead : (b : ℕ) → b < 256 → deads w′ b ≡ 0
 
 -- `b` becomes seen from the place `head`
 pub record SawIn (w w′ : List ℕ) (head b tail : ℕ) : Type 0 where
-  pub outside : Outside viaAt noneAt w w′
+  pub outside : Outside viaAt deadAt w w′
   pub saw : Saw 256 (tables w) (tables w′) head b tail
+
+-- the search goes on at `head` of the queue
+abbrev pub ShowAsked : List ℕ → ℕ → ℕ → ℕ → ℕ → Type 0
+ShowAsked w base m head tail =
+    Sized w base m × Matching m (tables w) × Searching m (Pairs base w) (deads w) (tables w) head 0 tail × (head < tail)
 
 -- What the item at `head` of the queue leads to: an item with none before it, or, where `item` is `m`, only to more of the queue.
 pub record ShownIn (w w′ : List ℕ) (base m head item tail : ℕ) : Type 0 where
-  pub outside : Outside viaAt noneAt w w′
+  pub outside : Outside viaAt deadAt w w′
+  pub source : tables w′ .queue 0 ≡ tables w .queue 0
   pub item-le : item ≤ m
-  pub done : item ≡ m → Searching m (Pairs base w) (tables w′) (head + 1) 0 tail
-  pub found : item < m → Trail m (Pairs base w) (tables w′) tail × Flipping m (Pairs base w) (tables w′) (tables w′) tail item
-
--- What a search finds: an item with none before it and the way back from it, or, where `item` is `m`, nothing.
-pub record SearchedIn (w w′ : List ℕ) (base m item : ℕ) : Type 0 where
-  pub outside : Outside viaAt noneAt w w′
-  pub item-le : item ≤ m
-  pub exhausted : item ≡ m → Exhausted m (Pairs base w) (tables w′)
+  pub done : item ≡ m → Searching m (Pairs base w) (deads w) (tables w′) (head + 1) 0 tail
   pub found : item < m
-      → (tail : ℕ) × (tail ≤ m) × Trail m (Pairs base w) (tables w′) tail × Flipping m (Pairs base w) (tables w′) (tables w′) tail item
+      → Trail m (Pairs base w) (deads w) (tables w′) tail × Flipping m (Pairs base w) (deads w) (tables w′) (tables w′) tail item
+
+-- What a search from `a` finds: an item with none before it and the way back from it, or, where `item` is `m`, nothing.
+pub record SearchedIn (w w′ : List ℕ) (base m a item : ℕ) : Type 0 where
+  pub outside : Outside viaAt deadAt w w′
+  pub source : tables w′ .queue 0 ≡ a
+  pub item-le : item ≤ m
+  pub exhausted : item ≡ m → Dead m (Pairs base w) (tables w′) (tables w′ .seen) (a + 1)
+  pub found : item < m
+      → (tail : ℕ)
+      × (tail ≤ m)
+      × Trail m (Pairs base w) (deads w) (tables w′) tail
+      × Flipping m (Pairs base w) (deads w) (tables w′) (tables w′) tail item
 
 -- `b` was seen from a place of the queue
 abbrev pub FlipAsked : List ℕ → ℕ → Type 0
@@ -76,10 +113,25 @@ pub record FlippedIn (w w′ : List ℕ) (b old : ℕ) : Type 0 where
   pub put : PutIn w w′ (tables w .queue (tables w .via b - 1)) b
   pub before : old ≡ tables w .next (tables w .queue (tables w .via b - 1))
 
--- One chain fewer, or the search is exhausted.
-abbrev pub ShrunkIn : List ℕ → List ℕ → ℕ → ℕ → Bool → Type 0
-ShrunkIn w w′ base m true = Outside nextAt noneAt w w′ × Shrunk m (Pairs base w) (tables w) (tables w′)
-ShrunkIn w w′ base m false = Outside viaAt noneAt w w′ × Exhausted m (Pairs base w) (tables w′)
+-- sound chains in which the items below `a` have been searched from; what is dead is seen, and nothing else
+pub record Extendable (w : List ℕ) (base m a : ℕ) : Type 0 where
+  pub sized : Sized w base m
+  pub matching : Matching m (tables w)
+  pub seen-dead : (b : ℕ) → b < m → tables w .seen b ≡ deads w b
+  pub dead : Dead m (Pairs base w) (tables w) (deads w) a
+
+-- `a` has been searched from too: there is one chain fewer, or the chains are the same
+pub record ExtendedIn (w w′ : List ℕ) (base m a : ℕ) : Type 0 where
+  pub outside : Outside nextAt noneAt w w′
+  pub seen-dead : (b : ℕ) → b < m → tables w′ .seen b ≡ deads w′ b
+  pub dead : Dead m (Pairs base w) (tables w′) (deads w′) (a + 1)
+  pub change : SameLinks m (tables w) (tables w′) ⊎ Shrunk m (Pairs base w) (tables w) (tables w′)
+
+-- chains of pairs of the matrix
+pub record Chained (w : List ℕ) (base m : ℕ) : Type 0 where
+  pub sized : Sized w base m
+  pub matching : Matching m (tables w)
+  pub pairs : (a b : ℕ) → a < m → b < m → tables w .next a ≡ b + 1 → Pairs base w a b
 
 -- A pass that pairs items as they come is at `a`.
 pub record PairedIn (w w′ : List ℕ) (base m a : ℕ) : Type 0 where

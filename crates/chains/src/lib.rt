@@ -1,11 +1,13 @@
-// Chains of items in the work words: first pairs as they come, then an augmenting search joins two chains, until none is found.
+// Chains of items in the work words: first pairs as they come, then an augmenting search from the end of each chain, which joins it to another.
+// What a search has seen in vain is dead: no later search looks at it.
 ghost use mathlib.Core.Path.{_≡_};
 ghost use Prim.Native.Nat.{ℕ, _+_, _-_, _<_, _≤_};
 ghost use lib.ListN.{length, getD};
 ghost use Rattle.bits.specs.Work.{nextAt, viaAt, usedWords};
-ghost use Rattle.chains.specs.Items.{Matching, Pairing, Searching};
-ghost use Rattle.chains.specs.State.{tables, Pairs, Sized, UnseenIn, PutIn, PreparedIn, SawIn, ShownIn, SearchedIn};
-ghost use Rattle.chains.specs.State.{FlipAsked, FlippedIn, ShrunkIn, PairedIn, JoinedIn, SelvesIn, LoopedIn};
+ghost use Rattle.chains.specs.Items.{Pairing};
+ghost use Rattle.chains.specs.State.{tables, Pairs, Sized, ForgottenIn, PutIn, PairedIn, SawIn, ShowAsked, ShownIn, SearchedIn};
+ghost use Rattle.chains.specs.State.{FlipAsked, FlippedIn, Extendable, ExtendedIn, Chained, JoinedIn, SelvesIn, LoopedIn};
+use bits::DEAD;
 use bits::LINKS;
 use bits::NEXT;
 use bits::NONE;
@@ -14,10 +16,10 @@ use bits::QUEUE;
 use bits::SEEN;
 use bits::VIA;
 
-// Makes nothing seen.
-fn clear_seen(w: &mut [u32])
+// Lets nothing be seen and nothing be dead.
+fn forget(w: &mut [u32])
     requires { ⌜ usedWords ≤ length (now w) ⌝ }
-    ensures { λ _. ⌜ UnseenIn (now (w .entry)) (now (w .exit)) ⌝ }
+    ensures { λ _. ⌜ ForgottenIn (now (w .entry)) (now (w .exit)) ⌝ }
 {
     let from = SEEN;
     let to = NONE;
@@ -33,22 +35,30 @@ fn put_behind(w: &mut [u32], a: usize, b: usize)
     w[PREV + b] = (a + 1) as u32;
 }
 
-// Puts the items that end a chain into the queue, and gives their count. Nothing is seen.
-fn prepare(w: &mut [u32], m: usize) -> usize
-    requires { ⌜ (usedWords ≤ length (now w)) × (m < 256) ⌝ }
-    ensures { λ r. ⌜ PreparedIn (now (w .entry)) (now (w .exit)) m r ⌝ }
+// Puts behind `a` the first item that it has in the matrix at `base` and that stands behind none yet, if there is one. What stands behind
+// an item is marked as seen.
+fn pair(w: &mut [u32], base: usize, m: usize, a: usize)
+    requires { ⌜ Sized (now w) base m × Pairing m (Pairs base (now w)) (tables (now w)) a × (a < m) ⌝ }
+    ensures { λ _. ⌜ PairedIn (now (w .entry)) (now (w .exit)) base m (a + 1) ⌝ }
 {
-    clear_seen(w);
-    let mut tail = 0;
+    let b = bits::next_new(w, base + 8 * a, SEEN, 0);
+    if b < m {
+        bits::set_bit(w, SEEN, b);
+        put_behind(w, a, b);
+    }
+}
+
+// From single items to pairs, as they come.
+fn first_pairs(w: &mut [u32], base: usize, m: usize)
+    requires { ⌜ Sized (now w) base m × ((i : ℕ) → nextAt ≤ i → i < viaAt → getD (now w) i 0 ≡ 0) ⌝ }
+    ensures { λ _. ⌜ PairedIn (now (w .entry)) (now (w .exit)) base m m ⌝ }
+{
+    forget(w);
     let mut a = 0;
     while a < m {
-        if w[NEXT + a] == 0 {
-            w[QUEUE + tail] = a as u32;
-            tail += 1;
-        }
+        pair(w, base, m, a);
         a += 1;
     }
-    tail
 }
 
 // Marks `b` as seen from the place `head`; the item before it, if there is one, goes into the queue at `tail`.
@@ -73,7 +83,7 @@ struct Shown {
 // Sees what the item at `head` of the queue has in the matrix at `base`, up to an item with none before it; the item is `m` where there
 // is no such item.
 fn show(w: &mut [u32], base: usize, m: usize, head: usize, tail: usize) -> Shown
-    requires { ⌜ Sized (now w) base m × Matching m (tables (now w)) × Searching m (Pairs base (now w)) (tables (now w)) head 0 tail × (head < tail) ⌝ }
+    requires { ⌜ ShowAsked (now w) base m head tail ⌝ }
     ensures { λ r. ⌜ ShownIn (now (w .entry)) (now (w .exit)) base m head (r .item) (r .tail) ⌝ }
 {
     let row = base + 8 * w[QUEUE + head] as usize;
@@ -90,12 +100,13 @@ fn show(w: &mut [u32], base: usize, m: usize, head: usize, tail: usize) -> Shown
     Shown { item: m, tail: end }
 }
 
-// Searches for an item with none before it, from the items that end a chain; `m` where there is none.
-fn search(w: &mut [u32], base: usize, m: usize) -> usize
-    requires { ⌜ Sized (now w) base m × Matching m (tables (now w)) ⌝ }
-    ensures { λ r. ⌜ SearchedIn (now (w .entry)) (now (w .exit)) base m r ⌝ }
+// Searches for an item with none before it, from `a`, which ends a chain; `m` where there is none.
+fn search(w: &mut [u32], base: usize, m: usize, a: usize) -> usize
+    requires { ⌜ Extendable (now w) base m a × (a < m) × (tables (now w) .next a ≡ 0) ⌝ }
+    ensures { λ r. ⌜ SearchedIn (now (w .entry)) (now (w .exit)) base m a r ⌝ }
 {
-    let mut tail = prepare(w, m);
+    w[QUEUE] = a as u32;
+    let mut tail = 1;
     let mut head = 0;
     while head < tail {
         let shown = show(w, base, m, head, tail);
@@ -121,45 +132,37 @@ fn flip(w: &mut [u32], b: usize) -> usize
     old
 }
 
-// One chain fewer, if there can be.
-fn shrink(w: &mut [u32], base: usize, m: usize) -> bool
-    requires { ⌜ Sized (now w) base m × Matching m (tables (now w)) ⌝ }
-    ensures { λ r. ⌜ ShrunkIn (now (w .entry)) (now (w .exit)) base m r ⌝ }
+// Where `a` ends a chain, one chain fewer if a search from `a` finds how; what a search in vain has seen is dead from then on, and what
+// another has seen is not seen any more.
+fn extend(w: &mut [u32], base: usize, m: usize, a: usize)
+    requires { ⌜ Extendable (now w) base m a × (a < m) ⌝ }
+    ensures { λ _. ⌜ ExtendedIn (now (w .entry)) (now (w .exit)) base m a ⌝ }
 {
-    let found = search(w, base, m);
+    if w[NEXT + a] != 0 {
+        return;
+    }
+    let found = search(w, base, m, a);
     if found == m {
-        return false;
+        bits::copy_row(w, DEAD, SEEN);
+        return;
     }
     let mut old = flip(w, found);
     while old != 0 {
         old = flip(w, old - 1);
     }
-    true
+    bits::copy_row(w, SEEN, DEAD);
 }
 
-// Puts behind `a` the first item that it has in the matrix at `base` and that stands behind none yet, if there is one. What stands behind
-// an item is marked as seen.
-fn pair(w: &mut [u32], base: usize, m: usize, a: usize)
-    requires { ⌜ Sized (now w) base m × Pairing m (Pairs base (now w)) (tables (now w)) a × (a < m) ⌝ }
-    ensures { λ _. ⌜ PairedIn (now (w .entry)) (now (w .exit)) base m (a + 1) ⌝ }
+// From chains of pairs of the matrix to as few as can be.
+fn extend_all(w: &mut [u32], base: usize, m: usize)
+    requires { ⌜ Chained (now w) base m ⌝ }
+    ensures { λ _. ⌜ JoinedIn (now (w .entry)) (now (w .exit)) base m ⌝ }
 {
-    let b = bits::next_new(w, base + 8 * a, SEEN, 0);
-    if b < m {
-        bits::set_bit(w, SEEN, b);
-        put_behind(w, a, b);
-    }
-}
-
-// From single items to pairs, as they come.
-fn first_pairs(w: &mut [u32], base: usize, m: usize)
-    requires { ⌜ Sized (now w) base m × ((i : ℕ) → nextAt ≤ i → i < viaAt → getD (now w) i 0 ≡ 0) ⌝ }
-    ensures { λ _. ⌜ PairedIn (now (w .entry)) (now (w .exit)) base m m ⌝ }
-{
-    clear_seen(w);
-    let mut a = 0;
-    while a < m {
-        pair(w, base, m, a);
-        a += 1;
+    forget(w);
+    let mut from = 0;
+    while from < m {
+        extend(w, base, m, from);
+        from += 1;
     }
 }
 
@@ -169,7 +172,7 @@ pub fn join(w: &mut [u32], base: usize, m: usize)
     ensures { λ _. ⌜ JoinedIn (now (w .entry)) (now (w .exit)) base m ⌝ }
 {
     first_pairs(w, base, m);
-    while shrink(w, base, m) {}
+    extend_all(w, base, m);
 }
 
 // Puts each item but `v` behind itself.
@@ -193,5 +196,6 @@ pub fn find_loop(w: &mut [u32], m: usize, v: usize)
     ensures { λ _. ⌜ LoopedIn (now (w .entry)) (now (w .exit)) m v ⌝ }
 {
     behind_itself(w, m, v);
-    shrink(w, LINKS, m);
+    forget(w);
+    extend(w, LINKS, m, v);
 }

@@ -14,20 +14,20 @@ Inv-loop w₀ base m a₀ w a = (a ≤ m) × PairedIn w₀ w base m a
 abbrev μ-loop : tie.MeasureT-loop
 μ-loop w₀ base m a₀ w a = m - a
 
-clear-seen-requires : tie.Need-clear-seen-requires Inv-loop μ-loop
-clear-seen-requires c κs = omega arith
+forget-requires : tie.Need-forget-requires Inv-loop μ-loop
+forget-requires c κs = omega arith
 
 loop-holds : tie.Need-loop-holds Inv-loop μ-loop
 loop-holds c =
     let s = c .before .before .before .before .before in
-    let k = c .before .before .clear-seen in
+    let k = c .before .before .forget in
     (omega arith, pairs-start (s .args .w .now) (k .last .0) (s .args .base) (s .args .m) (s .pre .0) (s .pre .1) (k .ensures))
 
 pair-requires : tie.Need-pair-requires Inv-loop μ-loop
 pair-requires c κs =
     let s = c .before .before .before .before .before .before .before .before in
     let at = c .before .before .loop in
-    let k = c .before .before .before .before .before .clear-seen in
+    let k = c .before .before .before .before .before .forget in
     let z : Sized (k .last .0) (s .args .base) (s .args .m) = sized-kept (k .ensures .outside .same-length) (s .pre .0) in
     let (sized, pairing) = pair-asked (k .last .0) (at .w) (s .args .base) (s .args .m) (at .a) z (at .inv .1) in
     (sized, pairing, omega arith)
@@ -42,7 +42,7 @@ loop-again : tie.Need-loop-again Inv-loop μ-loop
 loop-again c =
     let s = c .before .before .before .before .before .before .before .before .before .before .before in
     let at = c .before .before .before .before .before .loop in
-    let k = c .before .before .before .before .before .before .before .before .clear-seen in
+    let k = c .before .before .before .before .before .before .before .before .forget in
     let p = c .before .before .pair in
     let z : Sized (k .last .0) (s .args .base) (s .args .m) = sized-kept (k .ensures .outside .same-length) (s .pre .0) in
     (omega arith, paired-from (k .last .0) (at .w) (s .args .base) (s .args .m) (at .a + 1) z (p .last .0) (at .inv .1 .outside) (p .ensures))
@@ -54,7 +54,7 @@ returns : tie.Need-returns Inv-loop μ-loop
 returns c =
     let s = c .before .before .before .before .before .before .before in
     let at = c .before .loop in
-    let k = c .before .before .before .before .clear-seen in
+    let k = c .before .before .before .before .forget in
     pairs-done (s .args .w .now) (k .last .0) (at .w) (s .args .base) (s .args .m) (at .a) (s .pre .0) (k .ensures) (at .inv .1) (omega arith)
 
 pub first-pairs-spec : {M : Type 1} → statement M
@@ -63,7 +63,7 @@ first-pairs-spec =
     (tie.spec
     Inv-loop
     μ-loop
-    clear-seen-requires
+    forget-requires
     loop-holds
     pair-requires
     add-a

@@ -1,11 +1,11 @@
--- `chains::clear_seen` meets its contract. Assumes nothing.
+-- `chains::forget` meets its contract. Assumes nothing.
 use borrow.Author.Needs.{needs}
 use native.Mathlib.Omega.{arith}
-use Rattle.bits.specs.Work.{seenAt, noneAt}
+use Rattle.bits.specs.Work.{noneAt}
 use Rattle.bits.proofs.Frames.{part-cleared}
-use Rattle.chains.proofs.Preparing.{cleared-unseen}
-use Rattle.chains.proofs.clear_seen.Statement.{statement}
-use Rattle.chains.proofs.clear_seen.Tie as tie
+use Rattle.chains.proofs.Marks.{forgotten}
+use Rattle.chains.proofs.forget.Statement.{statement}
+use Rattle.chains.proofs.forget.Tie as tie
 
 mul-clear : tie.Need-mul-clear
 mul-clear c = search needs
@@ -27,12 +27,12 @@ same-length c = search needs
 
 returns : tie.Need-returns
 returns c =
-    let a = c .before .before .before .before .before .args in
-    let k = c .before .before .clear in
-    cleared-unseen _ _ (part-cleared (a .w .now) (k .last .0) seenAt 8 noneAt (omega arith) (omega arith) (k .ensures))
+    let w = c .before .before .before .before .before .args .w .now in
+    let cleared = c .before .before .clear in
+    forgotten _ _ (part-cleared w (cleared .last .0) 5120 16 noneAt (omega arith) (omega arith) (cleared .ensures))
 
-pub clear-seen-spec : {M : Type 1} → statement M
-clear-seen-spec =
+pub forget-spec : {M : Type 1} → statement M
+forget-spec =
     tie.close
     (tie.spec
     mul-clear
