@@ -213,7 +213,7 @@ row-copied w w′ to from i e s =
 abbrev pub fresh : ℕ → ℕ → ℕ
 fresh r o = bitXor (bitOr r o) o
 
-fresh-one : (x y : ℕ) → x < 2 → y < 2 → differ (max x y) y ≡ 1 → (x ≡ 1) × (y ≡ 0)
+pub fresh-one : (x y : ℕ) → x < 2 → y < 2 → differ (max x y) y ≡ 1 → (x ≡ 1) × (y ≡ 0)
 fresh-one zero zero h k e = absurd (omega arith)
 fresh-one zero (suc zero) h k e = absurd (omega arith)
 fresh-one (suc zero) zero h k e = (refl, refl)
@@ -231,6 +231,12 @@ fresh-zero x (suc (suc y)) h k e f = absurd (omega arith)
 
 digit-fresh : (r o i : ℕ) → digit (fresh r o) i ≡ differ (max (digit r i) (digit o i)) (digit o i)
 digit-fresh r o i = digit-xor (bitOr r o) o i ∙ ap (λ (x : ℕ). differ x (digit o i)) (digit-or r o i)
+
+-- a word that is what is fresh in another: its bits
+pub bit-fresh : (u v w : List ℕ) (row seen to c : ℕ) → getD w (to + c / 32) 0 ≡ fresh (getD u (row + c / 32) 0) (getD v (seen + c / 32) 0)
+    → bit w to c ≡ differ (max (bit u row c) (bit v seen c)) (bit v seen c)
+unfolding bit
+bit-fresh u v w row seen to c e = ap (λ (x : ℕ). digit x (c % 32)) e ∙ digit-fresh _ _ (c % 32)
 
 -- a digit that is one stands below a number's bound
 one-below : (x k i : ℕ) → x < 2 ^ k → digit x i ≡ 1 → i < k

@@ -9,7 +9,7 @@ use native.Mathlib.Omega.{arith}
 use Rattle.paths.specs.Graph.{Graph, EndsBelow, Link}
 use Rattle.paths.specs.Closure.{WayBelow}
 use Rattle.paths.proofs.Ways.{below-way, way-below, way-first}
-use Rattle.bits.specs.Bits.{bit, RowJoined, FirstBit}
+use Rattle.bits.specs.Bits.{bit, RowJoined}
 use Rattle.bits.specs.Work.{waysAt, Matrix, Outside, nextAt}
 use Rattle.bits.proofs.Rows.{bit-lt}
 use Rattle.reach.specs.Reach.{RowClosed, RoundClosed, Closed}
@@ -131,26 +131,6 @@ round-end w w′ n k a h s =
                 q .complete x y hx hy
                 (⊎-elim inl
                 (λ r. let l : x < g .n = way-first ends (below-way g k (r .0)) in inr (omega arith, r .0, r .1)) r);
-          });
-    }
-
--- where `k` has no way, its round changes nothing
-pub round-none : (w : List ℕ) (n k r : ℕ) → k < 256 → FirstBit w (waysAt + 8 * k) r → 256 ≤ r → RoundClosed w w n k
-unfolding WayBelow
-round-none w n k r hk f h =
-    record {
-      outside = outside-none waysAt nextAt w;
-      ways = λ g ends e m.
-          let next : k + 1 ≡ suc k = add-one k in
-          subst (λ (j : ℕ). Matrix waysAt w (WayBelow g j)) (sym next)
-          (record {
-            sound = λ x y hx hy o. inl (m .sound x y hx hy o);
-            complete = λ x y hx hy v.
-                ⊎-elim (m .complete x y hx hy)
-                (λ q.
-                let o : bit w (waysAt + 8 * k) y ≡ 1 = m .complete k y hk hy (q .1) in
-                let z : bit w (waysAt + 8 * k) y ≡ 0 = f .none y (omega arith) in
-                absurd (omega arith)) v;
           });
     }
 

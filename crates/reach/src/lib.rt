@@ -5,8 +5,8 @@ ghost use lib.ListN.{length};
 ghost use Rattle.log.specs.Words.{kind, number};
 ghost use Rattle.log.specs.Log.{graphOf, PassedLog};
 ghost use Rattle.bits.specs.Work.{nextAt};
-ghost use Rattle.reach.specs.Reach.{NoneMarked, NoWays, Marked, WordTaken, LinksMarked, RiseTest, RowReached, RisingReached};
-ghost use Rattle.reach.specs.Reach.{LinksCopied, RowClosed, RoundClosed, Closed, WaysReached, ReachedLog, FirstLoop};
+ghost use Rattle.reach.specs.Reach.{NoneMarked, NoWays, Marked, WordTaken, LinksMarked, RiseTest, EndsTaken, RowReached, LinkNoted};
+ghost use Rattle.reach.specs.Reach.{RisingReached, LinksCopied, RowClosed, RoundClosed, Closed, WaysReached, ReachedLog, FirstLoop};
 use bits::LINKS;
 use bits::WAYS;
 
@@ -59,11 +59,28 @@ fn rises(w: &[u32], n: usize) -> bool
     true
 }
 
-// Gives `a` its ways, where links rise and all above `a` have theirs: each link that is not among them yet, and the ways from there.
-fn reach_row(w: &mut [u32], a: usize)
-    requires { ⌜ (nextAt ≤ length (now w)) × (a < 256) ⌝ }
-    ensures { λ _. ⌜ RowReached (now (w .entry)) (now (w .exit)) a ⌝ }
+// Gives row `a` of the ways its links to episodes that are not in `linked`.
+fn take_ends(w: &mut [u32], a: usize, linked: &[u32])
+    requires { ⌜ (nextAt ≤ length (now w)) × (a < 256) × (length (now linked) ≡ 8) ⌝ }
+    ensures { λ _. ⌜ EndsTaken (now (w .entry)) (now (w .exit)) a (now (linked .entry)) ⌝ }
 {
+    let links = LINKS + 8 * a;
+    let ways = WAYS + 8 * a;
+    let mut i = 0;
+    while i < 8 {
+        let old = linked[i];
+        w[ways + i] = (w[links + i] | old) ^ old;
+        i += 1;
+    }
+}
+
+// Gives `a` its ways, where links rise, all above `a` have theirs, and those of them that have links are in `linked`: first the links to
+// episodes without links, then each link that is not among the ways yet, and the ways from there.
+fn reach_row(w: &mut [u32], a: usize, linked: &[u32])
+    requires { ⌜ (nextAt ≤ length (now w)) × (a < 256) × (length (now linked) ≡ 8) ⌝ }
+    ensures { λ _. ⌜ RowReached (now (w .entry)) (now (w .exit)) a (now (linked .entry)) ⌝ }
+{
+    take_ends(w, a, linked);
     let links = LINKS + 8 * a;
     let ways = WAYS + 8 * a;
     let mut b = bits::next_new(w, links, ways, a + 1);
@@ -74,15 +91,27 @@ fn reach_row(w: &mut [u32], a: usize)
     }
 }
 
+// Notes in `linked` whether `a` has a link.
+fn note_linked(w: &[u32], a: usize, linked: &mut [u32])
+    requires { ⌜ (nextAt ≤ length (now w)) × (a < 256) × (length (now linked) ≡ 8) ⌝ }
+    ensures { λ _. ⌜ LinkNoted (now (w .entry)) a (now (linked .entry)) (now (linked .exit)) ⌝ }
+{
+    if bits::first_bit(w, LINKS + 8 * a) < 256 {
+        bits::set_bit(linked, 0, a);
+    }
+}
+
 // The ways of links that rise, from the last episode to the first.
 fn reach_rising(w: &mut [u32], n: usize)
     requires { ⌜ (nextAt ≤ length (now w)) × (n ≤ 256) × NoWays (now w) ⌝ }
     ensures { λ _. ⌜ RisingReached (now (w .entry)) (now (w .exit)) n ⌝ }
 {
+    let mut linked = [0u32; 8];
     let mut a = n;
     while 0 < a {
         a -= 1;
-        reach_row(w, a);
+        reach_row(w, a, &linked);
+        note_linked(w, a, &mut linked);
     }
 }
 
@@ -108,14 +137,11 @@ fn close_row(w: &mut [u32], a: usize, k: usize)
     }
 }
 
-// One round of Warshall's closure: ways by way of `k`, none where `k` has no way.
+// One round of Warshall's closure: ways by way of `k`.
 fn close_round(w: &mut [u32], n: usize, k: usize)
     requires { ⌜ (nextAt ≤ length (now w)) × (n ≤ 256) × (k < n) ⌝ }
     ensures { λ _. ⌜ RoundClosed (now (w .entry)) (now (w .exit)) n k ⌝ }
 {
-    if bits::first_bit(w, WAYS + 8 * k) == 256 {
-        return;
-    }
     let mut a = 0;
     while a < n {
         close_row(w, a, k);

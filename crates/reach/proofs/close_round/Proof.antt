@@ -2,7 +2,7 @@
 -- Assumes nothing.
 use Prim.Native.Nat.{_-_}
 use native.Mathlib.Omega.{arith}
-use Rattle.reach.proofs.Rounds.{InRound, round-none, round-start, round-row, round-end}
+use Rattle.reach.proofs.Rounds.{InRound, round-start, round-row, round-end}
 use Rattle.reach.proofs.close_round.Statement.{statement}
 use Rattle.reach.proofs.close_round.Tie as tie
 
@@ -12,26 +12,8 @@ Inv-loop w₀ n k a₀ w a = InRound w₀ w n k a
 abbrev μ-loop : tie.MeasureT-loop
 μ-loop w₀ n k a₀ w a = n - a
 
-mul-first-bit : tie.Need-mul-first-bit Inv-loop μ-loop
-mul-first-bit c = omega arith
-
-add-first-bit : tie.Need-add-first-bit Inv-loop μ-loop
-add-first-bit c = omega arith
-
-first-bit-requires : tie.Need-first-bit-requires Inv-loop μ-loop
-first-bit-requires c κs = omega arith
-
-same-length : tie.Need-same-length Inv-loop μ-loop
-same-length c = omega arith
-
-returns : tie.Need-returns Inv-loop μ-loop
-returns c =
-    let s = c .before .before .before .before in
-    let f = c .before .first-bit in
-    round-none (s .args .w .now) (s .args .n) (s .args .k) (f .result) (omega arith) (f .ensures) (omega arith)
-
 loop-holds : tie.Need-loop-holds Inv-loop μ-loop
-loop-holds c = let s = c .before .before .before .before in round-start (s .args .w .now) (s .args .n) (s .args .k)
+loop-holds c = round-start (c .before .args .w .now) (c .before .args .n) (c .before .args .k)
 
 close-row-requires : tie.Need-close-row-requires Inv-loop μ-loop
 close-row-requires c κs = omega arith
@@ -44,17 +26,17 @@ loop-less c = omega arith
 
 loop-again : tie.Need-loop-again Inv-loop μ-loop
 loop-again c =
-    let s = c .before .before .before .before .before .before .before .before .before .before in
+    let s = c .before .before .before .before .before .before .before in
     let at = c .before .before .before .before .before .loop in
     round-row (s .args .w .now) (at .w) (c .before .before .close-row .last .0) (s .args .n) (s .args .k) (at .a) (omega arith) (omega arith)
     (omega arith) (at .inv) (c .before .before .close-row .ensures)
 
-same-length-2 : tie.Need-same-length-2 Inv-loop μ-loop
-same-length-2 c = omega arith
+same-length : tie.Need-same-length Inv-loop μ-loop
+same-length c = omega arith
 
-returns-2 : tie.Need-returns-2 Inv-loop μ-loop
-returns-2 c =
-    let a = c .before .before .before .before .before .before .args in
+returns : tie.Need-returns Inv-loop μ-loop
+returns c =
+    let a = c .before .before .before .args in
     let at = c .before .loop in
     round-end (a .w .now) (at .w) (a .n) (a .k) (at .a) (omega arith) (at .inv)
 
@@ -64,15 +46,10 @@ close-round-spec =
     (tie.spec
     Inv-loop
     μ-loop
-    mul-first-bit
-    add-first-bit
-    first-bit-requires
-    same-length
-    returns
     loop-holds
     close-row-requires
     add-a
     loop-less
     loop-again
-    same-length-2
-    returns-2)
+    same-length
+    returns)

@@ -7,10 +7,13 @@ use Rattle.reach.proofs.reach_row.Statement.{statement}
 use Rattle.reach.proofs.reach_row.Tie as tie
 
 abbrev Inv-loop : tie.InvT-loop
-Inv-loop w₀ a links ways b₀ w b = InRow w₀ w a b
+Inv-loop w₀ a linked links ways b₀ w b = InRow w₀ w a b
 
 abbrev μ-loop : tie.MeasureT-loop
-μ-loop w₀ a links ways b₀ w b = 256 - b
+μ-loop w₀ a linked links ways b₀ w b = 256 - b
+
+take-ends-requires : tie.Need-take-ends-requires Inv-loop μ-loop
+take-ends-requires c κs = omega arith
 
 mul-links : tie.Need-mul-links Inv-loop μ-loop
 mul-links c = omega arith
@@ -32,8 +35,9 @@ next-new-requires c κs = omega arith
 
 loop-holds : tie.Need-loop-holds Inv-loop μ-loop
 loop-holds c =
-    let s = c .before .before .before in
-    row-start (s .args .w .now) (s .args .a) (c .next-new .result) (s .pre .1) (c .next-new .ensures)
+    let ends = c .before .before .before .before in
+    let s = ends .before .before .before .before in
+    row-start (ends .take-ends .last .0) (s .args .a) (c .next-new .result) (s .pre .1) (c .next-new .ensures)
 
 set-bit-requires : tie.Need-set-bit-requires Inv-loop μ-loop
 set-bit-requires c κs = omega arith
@@ -55,7 +59,7 @@ loop-again c =
     let join = c .before .before .before .before in
     let set = join .before .before .before .before in
     let at = set .before .before .before in
-    let s = at .before .before .before .before in
+    let s = at .before .before .before .before .before .before .before .before .before in
     row-on (s .pre .1) (omega arith) (at .loop .inv) (set .set-bit .ensures) (join .join-row .ensures) (c .next-new2 .ensures)
 
 same-length : tie.Need-same-length Inv-loop μ-loop
@@ -63,9 +67,9 @@ same-length c = omega arith
 
 returns : tie.Need-returns Inv-loop μ-loop
 returns c =
-    let s = c .before .before .before .before .before in
-    let at = c .before .loop in
-    row-end (s .args .w .now) (at .w) (s .args .a) (at .b) (s .pre .1) (omega arith) (at .inv)
+    let ends = c .before .before .before .before .before .before in
+    let s = ends .before .before .before .before in
+    row-end (s .pre .1) (ends .take-ends .ensures) (omega arith) (c .before .loop .inv)
 
 pub reach-row-spec : {M : Type 1} → statement M
 reach-row-spec =
@@ -73,6 +77,7 @@ reach-row-spec =
     (tie.spec
     Inv-loop
     μ-loop
+    take-ends-requires
     mul-links
     add-links
     mul-ways
