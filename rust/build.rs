@@ -3,7 +3,8 @@
 use std::path::Path;
 
 fn main() {
-    let root = Path::new(env!("CARGO_MANIFEST_DIR")).parent().expect("the crate stands in the repository");
+    let package = std::env::var_os("CARGO_MANIFEST_DIR").expect("cargo names the package's folder");
+    let root = Path::new(&package).parent().expect("the package stands in the repository");
     let folder = root.join("build");
     let library = folder.join("libzohapy.a");
     assert!(library.exists(), "{} is missing: run ./library first", library.display());

@@ -25,6 +25,7 @@ const USAGE: &str =
     "cross-checks [--calls N] [--seed S] [--threads T]   random calls; 100,000 with seed 1 in one thread unless said
 cross-checks --round R                              one round again, by the seed that a disagreement prints
 cross-checks --program PATH [--seed S]              the printing program too
+cross-checks --sample LOG                           the text stored beside a log, with .out for its ending
 cross-checks --faults                               deliberate faults, each of which must be caught
 cross-checks --fault N                              one of them, shown as a disagreement is shown";
 
@@ -35,6 +36,7 @@ pub struct Wanted {
     threads: usize,
     round: Option<u64>,
     program: Option<String>,
+    sample: Option<String>,
     faults: bool,
     fault: Option<usize>,
 }
@@ -46,8 +48,16 @@ fn threads(count: u64) -> Result<usize, String> {
 }
 
 fn wanted() -> Result<Wanted, String> {
-    let mut wanted =
-        Wanted { calls: runs::DEFAULT_CALLS, seed: 1, threads: 1, round: None, program: None, faults: false, fault: None };
+    let mut wanted = Wanted {
+        calls: runs::DEFAULT_CALLS,
+        seed: 1,
+        threads: 1,
+        round: None,
+        program: None,
+        sample: None,
+        faults: false,
+        fault: None,
+    };
     let mut given = std::env::args().skip(1);
     while let Some(option) = given.next() {
         if option == "--faults" {
@@ -63,6 +73,7 @@ fn wanted() -> Result<Wanted, String> {
             "--fault" => wanted.fault = Some(figure()? as usize),
             "--round" => wanted.round = Some(figure()?),
             "--program" => wanted.program = Some(value),
+            "--sample" => wanted.sample = Some(value),
             _ => return Err(format!("what is {option}?")),
         }
     }
@@ -83,6 +94,8 @@ fn main() -> ExitCode {
         runs::one_fault(index)
     } else if let Some(seed) = wanted.round {
         runs::one_round(seed)
+    } else if let Some(log) = wanted.sample {
+        program::sample(&log)
     } else {
         runs::checks(&wanted) && wanted.program.as_ref().is_none_or(|path| program::check(path, wanted.seed))
     };

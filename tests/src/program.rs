@@ -187,6 +187,20 @@ pub fn check(path: &str, seed: u64) -> bool {
     missing.is_empty()
 }
 
+/// Judges the text that is stored beside the log in a file.
+pub fn sample(log: &str) -> bool {
+    let stored = std::path::Path::new(log).with_extension("out");
+    let judged = std::fs::read(log)
+        .and_then(|input| Ok((input, std::fs::read_to_string(&stored)?)))
+        .map_err(|error| error.to_string())
+        .and_then(|(input, text)| judge(&input, &text));
+    match judged {
+        Ok(number) => println!("{log}: the stored text agrees; its answer is {number}"),
+        Err(ref what) => println!("DISAGREEMENT in {}: {what}", stored.display()),
+    }
+    judged.is_ok()
+}
+
 /// The text that is right, from the library's answers.
 fn right_text(input: &[u8]) -> String {
     let log = match bytes(input) {

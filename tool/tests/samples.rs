@@ -57,6 +57,11 @@ fn each_has_a_picture_or_a_refusal() {
 }
 
 #[test]
+fn the_stored_picture_is_that_of_the_log() {
+    assert!(run("picture", "small-night", "log").stdout == content("small-night", "svg"));
+}
+
+#[test]
 fn other_trouble_has_status_2() {
     assert_eq!(run("bytes", "full-night", "log").status.code(), Some(2));
     assert_eq!(run("text", "no such sample", "log").status.code(), Some(2));
