@@ -29,7 +29,7 @@ use Rattle.paths.specs.Graph.{Graph, Episode, Link, EndsBelow, Way, one, step, 
 use Rattle.paths.proofs.Ways.{way-trans}
 use Rattle.paths.proofs.Numbers.{nodup-below}
 use Rattle.paths.proofs.Loops.{walk-way}
-use Rattle.chains.specs.Items.{Tables, SameLinks, Matching, Spent, Dead, Shrunk}
+use Rattle.chains.specs.Items.{Tables, SameChains, Matching, Spent, Dead, Shrunk}
 use Rattle.chains.specs.Cycles.{Selves, Walking}
 
 pub selves-matching : {m v : ℕ} {t : Tables} → Selves m t v → Matching m t
@@ -73,7 +73,7 @@ selves-matching {m} {v} {t} s =
 
 module _ {g : Graph} {t t′ : Tables} {dead : ℕ → ℕ} {v : ℕ} (ends : EndsBelow g) (s : Selves (g .n) t v) where
   -- a search that finds nothing shows that `v` has no way to itself
-  pub no-way-back : SameLinks (g .n) t t′ → Dead (g .n) (Link g) t′ dead (v + 1) → Way g v v → ⊥
+  pub no-way-back : SameChains (g .n) t t′ → Dead (g .n) (Link g) t′ dead (v + 1) → Way g v v → ⊥
   no-way-back same x w =
       let e = same .prev-same v (s .below) in
       let f = s .prev-end in

@@ -7,7 +7,7 @@ use native.Mathlib.Decide.{ℕ-discrete}
 use native.Mathlib.Omega.{arith}
 use Rattle.chains.specs.Items.{
   Tables,
-  SameLinks,
+  SameChains,
   Matching,
   Reached,
   from-end,
@@ -33,7 +33,7 @@ reached-same s (from-next {a = a} al bl cl e g (h, r)) =
     from-next al bl cl (s a al ∙ e) (reached-same s g) (λ z. h (sym (s a al) ∙ z), r)
 
 -- the same chains, and the same pairs of another relation
-pub dead-moved : {m k : ℕ} {R R′ : ℕ → ℕ → Type 0} {t t′ : Tables} {dead dead′ : ℕ → ℕ} → Within m R R′ → Within m R′ R → SameLinks m t t′
+pub dead-moved : {m k : ℕ} {R R′ : ℕ → ℕ → Type 0} {t t′ : Tables} {dead dead′ : ℕ → ℕ} → Within m R R′ → Within m R′ R → SameChains m t t′
     → ((b : ℕ) → b < m → dead′ b ≡ dead b) → Dead m R t dead k → Dead m R′ t′ dead′ k
 dead-moved {m} {k} {t = t} {t′ = t′} {dead = dead} {dead′ = dead′} to back s d x =
     record {

@@ -9,14 +9,14 @@ use lib.ListN.{length, getD}
 use Rattle.bits.specs.Bits.{RowCopied}
 use Rattle.bits.specs.Work.{nextAt, viaAt, seenAt, deadAt, noneAt, usedWords, Outside}
 use Rattle.bits.proofs.Frames.{outside-none, outside-then, outside-wider, bit-before}
-use Rattle.chains.specs.Items.{SameLinks, Dead, Trail, Flipping, Flipped, Extended}
+use Rattle.chains.specs.Items.{SameChains, Dead, Trail, Flipping, Flipped, Extended}
 use Rattle.chains.specs.State.{tables, deads, Pairs, Extendable, SearchedIn, FlippedIn, ExtendedIn}
 use Rattle.chains.proofs.Deads.{dead-moved, dead-skip, dead-kept}
 use Rattle.chains.proofs.Flips.{flip-on, flip-end}
 use Rattle.chains.proofs.Frames.{via-behind, queue-behind, dead-behind}
 use Rattle.chains.proofs.Marks.{copied-outside}
-use Rattle.chains.proofs.Relations.{links-none, trail-within, flipping-within, shrunk-within, shrunk-from, shrunk-to}
-use Rattle.chains.proofs.Showing.{flipped-fewer, matching-kept, same-links, forth, back}
+use Rattle.chains.proofs.Relations.{chains-none, trail-within, flipping-within, shrunk-within, shrunk-from, shrunk-to}
+use Rattle.chains.proofs.Showing.{flipped-fewer, matching-kept, same-chains, forth, back}
 
 -- what is left of the way back: the place, plus one, from which the item `old - 1` was seen, or 0 where `old` is 0
 unfoldable pub left : List ℕ → ℕ → ℕ
@@ -102,7 +102,7 @@ module _ (w₁ w : List ℕ) (base m tail old b : ℕ) (s : Going w₁ w base m 
 -- an item that ends no chain
 pub not-end : (e : List ℕ) (base m a : ℕ) → Extendable e base m a → 0 < tables e .next a → ExtendedIn e e base m a
 not-end e base m a z h =
-    record { outside = outside-none nextAt noneAt e; seen-dead = z .seen-dead; dead = dead-skip (z .dead) h; change = inl links-none }
+    record { outside = outside-none nextAt noneAt e; seen-dead = z .seen-dead; dead = dead-skip (z .dead) h; change = inl chains-none }
 
 -- `e` are the words before the search
 module _ (e w₁ : List ℕ) (base m a item : ℕ) (z : Extendable e base m a) (h : SearchedIn e w₁ base m a item) where
@@ -140,14 +140,14 @@ module _ (e w₁ : List ℕ) (base m a item : ℕ) (z : Extendable e base m a) (
         change =
             inr
             (shrunk-within (back (z .sized) (omega arith) (h .outside))
-            (shrunk-from (same-links (omega arith) (h .outside) m (z .sized .items)) (shrunk-to links (extended .shrunk))));
+            (shrunk-from (same-chains (omega arith) (h .outside) m (z .sized .items)) (shrunk-to links (extended .shrunk))));
       }
     where
       o : Outside seenAt deadAt w w′
       o = copied-outside c
 
-      links : SameLinks m (tables w) (tables w′)
-      links = same-links (omega arith) o m (z .sized .items)
+      links : SameChains m (tables w) (tables w′)
+      links = same-chains (omega arith) o m (z .sized .items)
 
       extended : Extended m (Pairs base w₁) (deads w₁) (tables w₁) (tables w) a
       extended = subst (λ (x : ℕ). Extended m (Pairs base w₁) (deads w₁) (tables w₁) (tables w) x) (h .source) (s .done q)
@@ -155,7 +155,7 @@ module _ (e w₁ : List ℕ) (base m a item : ℕ) (z : Extendable e base m a) (
       searched : Dead m (Pairs base w₁) (tables w₁) (deads w₁) a
       searched =
           dead-moved (forth (z .sized) (omega arith) (h .outside)) (back (z .sized) (omega arith) (h .outside))
-          (same-links (omega arith) (h .outside) m (z .sized .items)) same-dead (z .dead)
+          (same-chains (omega arith) (h .outside) m (z .sized .items)) same-dead (z .dead)
 
   -- nothing was found; `w` are the words after what is seen has been copied
   pub in-vain : (w : List ℕ) → item ≡ m → RowCopied w₁ w deadAt seenAt → ExtendedIn e w base m a
@@ -163,8 +163,8 @@ module _ (e w₁ : List ℕ) (base m a item : ℕ) (z : Extendable e base m a) (
       record {
         outside = outside-wider (omega arith) (omega arith) all;
         seen-dead = λ b bl. bit-before o seenAt b (omega arith) (omega (arith, z .sized .items)) ∙ sym (dead b bl);
-        dead = dead-moved (λ x b xl bl r. r) (λ x b xl bl r. r) (same-links (omega arith) o m (z .sized .items)) dead (h .exhausted q);
-        change = inl (same-links (omega arith) all m (z .sized .items));
+        dead = dead-moved (λ x b xl bl r. r) (λ x b xl bl r. r) (same-chains (omega arith) o m (z .sized .items)) dead (h .exhausted q);
+        change = inl (same-chains (omega arith) all m (z .sized .items));
       }
     where
       o : Outside deadAt noneAt w₁ w

@@ -9,9 +9,9 @@ use Rattle.bits.proofs.Frames.{outside-then, outside-wider}
 use Rattle.chains.specs.Items.{Dead}
 use Rattle.chains.specs.State.{tables, deads, Pairs, Sized, ForgottenIn, PairedIn, Extendable, ExtendedIn, Chained, JoinedIn}
 use Rattle.chains.proofs.Deads.{dead-none, dead-moved, dead-exhausted}
-use Rattle.chains.proofs.Relations.{links-none, exhausted-within}
+use Rattle.chains.proofs.Relations.{chains-none, exhausted-within}
 use Rattle.chains.proofs.Searches.{matching-same}
-use Rattle.chains.proofs.Showing.{matching-kept, same-links, sized-kept, forth, back}
+use Rattle.chains.proofs.Showing.{matching-kept, same-chains, sized-kept, forth, back}
 
 -- after the first pairs
 module _ (w w′ : List ℕ) (base m : ℕ) (z : Sized w base m) (p : PairedIn w w′ base m m) where
@@ -57,7 +57,7 @@ module _ (w₀ : List ℕ) (base m : ℕ) (z : Chained w₀ base m) where
             };
         pairs =
             λ a b al bl h.
-            let e = same-links (omega arith) (n .outside) m (z .sized .items) .next-same a al in
+            let e = same-chains (omega arith) (n .outside) m (z .sized .items) .next-same a al in
             z .pairs a b al bl (omega arith);
       }
 
@@ -74,7 +74,7 @@ module _ (w₀ : List ℕ) (base m : ℕ) (z : Chained w₀ base m) where
                 matching = ⊎-elim (λ k. matching-same (x .matching) k) (λ k. k .matching) (h .change);
                 seen-dead = h .seen-dead;
                 dead =
-                    dead-moved (forth (x .sized) (omega arith) (h .outside)) (back (x .sized) (omega arith) (h .outside)) links-none
+                    dead-moved (forth (x .sized) (omega arith) (h .outside)) (back (x .sized) (omega arith) (h .outside)) chains-none
                     (λ b bl. refl) (h .dead);
               };
           pairs =

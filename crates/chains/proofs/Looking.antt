@@ -11,9 +11,9 @@ use Rattle.chains.specs.State.{tables, deads, Pairs, Sized, Extendable, 
 use Rattle.bits.proofs.Frames.{outside-none, outside-then, outside-set, bit-stored}
 use Rattle.chains.proofs.Deads.{dead-moved, dead-more}
 use Rattle.chains.proofs.Frames.{dead-behind, next-before, prev-before}
-use Rattle.chains.proofs.Relations.{Within, links-none, searching-within, trail-within, flipping-within}
+use Rattle.chains.proofs.Relations.{Within, chains-none, searching-within, trail-within, flipping-within}
 use Rattle.chains.proofs.Searches.{injective-le, search-start}
-use Rattle.chains.proofs.Showing.{matching-kept, same-links, sized-kept, forth, back}
+use Rattle.chains.proofs.Showing.{matching-kept, same-chains, sized-kept, forth, back}
 
 -- the items before `head` have shown all; the words were `w₀`
 pub record Looking (w₀ w : List ℕ) (base m a head tail : ℕ) : Type 0 where
@@ -66,9 +66,9 @@ module _ (e : List ℕ) (base m a : ℕ) (z : Extendable e base m a) (al : a < m
         exhausted =
             λ q.
             dead-moved (back (z .sized) (omega arith) all) (forth (z .sized) (omega arith) all)
-            links-none (λ b bl. refl)
+            chains-none (λ b bl. refl)
             (dead-more
-            (dead-moved (forth (z .sized) (omega arith) all) (back (z .sized) (omega arith) all) (same-links (omega arith) all m (z .sized .items))
+            (dead-moved (forth (z .sized) (omega arith) all) (back (z .sized) (omega arith) all) (same-chains (omega arith) all m (z .sized .items))
             (λ b bl. dead-behind all (omega arith) b) (z .dead))
             (rw same at (s .searching)) (s .some) (s .source));
         found = λ l. absurd (omega arith);

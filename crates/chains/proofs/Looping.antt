@@ -8,13 +8,13 @@ use lib.ListN.{length}
 use Rattle.bits.specs.Work.{linksAt, nextAt, noneAt, usedWords, matrixWords, Matrix, Outside}
 use Rattle.bits.proofs.Frames.{outside-then, outside-wider}
 use Rattle.paths.specs.Graph.{Graph, EndsBelow, Link, Way}
-use Rattle.chains.specs.Items.{SameLinks, Dead, Shrunk}
+use Rattle.chains.specs.Items.{SameChains, Dead, Shrunk}
 use Rattle.chains.specs.Cycles.{Selves}
 use Rattle.chains.specs.State.{tables, deads, Pairs, Sized, ForgottenIn, SelvesIn, Extendable, ExtendedIn, LoopedIn}
 use Rattle.chains.proofs.Cycle.{selves-matching, no-way-back}
 use Rattle.chains.proofs.Deads.{dead-none, dead-moved}
-use Rattle.chains.proofs.Relations.{Within, links-none, links-then, shrunk-within, shrunk-from}
-use Rattle.chains.proofs.Showing.{matching-kept, same-links, sized-kept, forth, back}
+use Rattle.chains.proofs.Relations.{Within, chains-none, links-then, shrunk-within, shrunk-from}
+use Rattle.chains.proofs.Showing.{matching-kept, same-chains, sized-kept, forth, back}
 
 -- `e` are the words at first, `w₁` those with each item but `v` behind itself, and in `w₂` besides nothing is seen or dead
 module _ (e w₁ w₂ : List ℕ) (m v : ℕ) (long : usedWords ≤ length e) (items : m < 256) (s : SelvesIn e w₁ m v) (n : ForgottenIn w₁ w₂) where
@@ -24,8 +24,8 @@ module _ (e w₁ w₂ : List ℕ) (m v : ℕ) (long : usedWords ≤ length e) (i
   sized : (base : ℕ) → base + matrixWords ≤ nextAt → Sized e base m
   sized base fits = record { long = long; matrix = fits; items = items }
 
-  links : SameLinks m (tables w₁) (tables w₂)
-  links = same-links (omega arith) (n .outside) m items
+  links : SameChains m (tables w₁) (tables w₂)
+  links = same-chains (omega arith) (n .outside) m items
 
   pub extend-asked : (base : ℕ) → base + matrixWords ≤ nextAt → Extendable w₂ base m v
   extend-asked base fits =
@@ -58,11 +58,11 @@ module _ (e w₁ w₂ : List ℕ) (m v : ℕ) (long : usedWords ≤ length e) (i
       }
     where
       go : (g : Graph) → EndsBelow g → g .n ≡ m → Matrix linksAt e (Link g) → Way g v v
-          → SameLinks m (tables w₂) (tables w) ⊎ Shrunk m (Pairs linksAt w₂) (tables w₂) (tables w) → Shrunk m (Link g) (tables w₁) (tables w)
+          → SameChains m (tables w₂) (tables w) ⊎ Shrunk m (Pairs linksAt w₂) (tables w₂) (tables w) → Shrunk m (Link g) (tables w₁) (tables w)
       go g ends i k way (inr f) = shrunk-within (sound g k) (shrunk-from links f)
       go g ends i k way (inl f) =
           let j : Selves (g .n) (tables w₁) v = rw i (s .selves) in
-          let l : SameLinks (g .n) (tables w₁) (tables w) = rw i (links-then links f) in
+          let l : SameChains (g .n) (tables w₁) (tables w) = rw i (links-then links f) in
           let x : Dead (g .n) (Link g) (tables w) (deads w) (v + 1) =
-          rw i (dead-moved (sound g k) (complete g k) links-none (λ b bl. refl) (h .dead)) in
+          rw i (dead-moved (sound g k) (complete g k) chains-none (λ b bl. refl) (h .dead)) in
           absurd (no-way-back ends j l x way)

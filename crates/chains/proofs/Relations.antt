@@ -15,7 +15,7 @@ use Rattle.chains.specs.Items.{
   Trail,
   Flipping,
   Shrunk,
-  SameLinks,
+  SameChains,
 }
 use Rattle.chains.proofs.Searches.{matching-same}
 
@@ -114,15 +114,15 @@ module _ {m : ℕ} {R R′ : ℕ → ℕ → Type 0} (to : Within m R R′) wher
         fewer = k .fewer;
       }
 
-pub links-none : {m : ℕ} {t : Tables} → SameLinks m t t
-links-none = record { next-same = λ a al. refl; prev-same = λ b bl. refl }
+pub chains-none : {m : ℕ} {t : Tables} → SameChains m t t
+chains-none = record { next-same = λ a al. refl; prev-same = λ b bl. refl }
 
-pub links-then : {m : ℕ} {t t′ t″ : Tables} → SameLinks m t t′ → SameLinks m t′ t″ → SameLinks m t t″
+pub links-then : {m : ℕ} {t t′ t″ : Tables} → SameChains m t t′ → SameChains m t′ t″ → SameChains m t t″
 links-then f g =
     record { next-same = λ a al. g .next-same a al ∙ f .next-same a al; prev-same = λ b bl. g .prev-same b bl ∙ f .prev-same b bl }
 
 -- one chain fewer than in tables with the same chains
-pub shrunk-from : {m : ℕ} {R : ℕ → ℕ → Type 0} {t t₀ t′ : Tables} → SameLinks m t t₀ → Shrunk m R t₀ t′ → Shrunk m R t t′
+pub shrunk-from : {m : ℕ} {R : ℕ → ℕ → Type 0} {t t₀ t′ : Tables} → SameChains m t t₀ → Shrunk m R t₀ t′ → Shrunk m R t t′
 shrunk-from {m} {R} {t} {t₀} {t′} s k =
     record {
       matching = k .matching;
@@ -132,7 +132,7 @@ shrunk-from {m} {R} {t} {t₀} {t′} s k =
     }
 
 -- and of other tables with the new chains
-pub shrunk-to : {m : ℕ} {R : ℕ → ℕ → Type 0} {t t′ t″ : Tables} → SameLinks m t′ t″ → Shrunk m R t t′ → Shrunk m R t t″
+pub shrunk-to : {m : ℕ} {R : ℕ → ℕ → Type 0} {t t′ t″ : Tables} → SameChains m t′ t″ → Shrunk m R t t′ → Shrunk m R t t″
 shrunk-to {m} {R} {t} {t′} {t″} s k =
     record {
       matching = matching-same (k .matching) s;

@@ -20,7 +20,7 @@ use Rattle.paths.proofs.Numbers.{nodup-below}
 use Rattle.chains.specs.Items.{
   Tables,
   Matching,
-  SameLinks,
+  SameChains,
   SeenFrom,
   Searching,
   Saw,
@@ -63,7 +63,7 @@ injective-le k m f low different =
     let e : length (values f k) ≡ k = length-values f k in
     omega arith
 
-pub matching-same : {m : ℕ} {t t′ : Tables} → Matching m t → SameLinks m t t′ → Matching m t′
+pub matching-same : {m : ℕ} {t t′ : Tables} → Matching m t → SameChains m t t′ → Matching m t′
 matching-same k s =
     record {
       next-le = λ a al. let e = s .next-same a al in let h = k .next-le a al in omega arith;
@@ -82,7 +82,7 @@ matching-same k s =
           omega arith;
     }
 
-saw-same : {m : ℕ} {t t′ : Tables} {head b tail : ℕ} → Saw m t t′ head b tail → SameLinks m t t′
+saw-same : {m : ℕ} {t t′ : Tables} {head b tail : ℕ} → Saw m t t′ head b tail → SameChains m t t′
 saw-same w = record { next-same = w .next-same; prev-same = w .prev-same }
 
 pub saw-matching : {m : ℕ} {t t′ : Tables} {head b tail : ℕ} → Matching m t → Saw m t t′ head b tail → Matching m t′

@@ -7,7 +7,7 @@ use native.Mathlib.Omega.{arith}
 use lib.ListN.{length, getD}
 use Rattle.bits.specs.Bits.{NextNew}
 use Rattle.bits.specs.Work.{nextAt, prevAt, viaAt, queueAt, seenAt, deadAt, Outside}
-use Rattle.chains.specs.Items.{Tables, SameLinks, Matching, Searching, Saw, Flipped}
+use Rattle.chains.specs.Items.{Tables, SameChains, Matching, Searching, Saw, Flipped}
 use Rattle.chains.specs.State.{tables, deads, Pairs, Sized, SawIn, ShownIn}
 use Rattle.bits.proofs.Frames.{outside-none, outside-then}
 use Rattle.chains.proofs.Frames.{pairs-kept, pairs-were, next-before, prev-before}
@@ -63,15 +63,15 @@ shown-to {m} {R} {dead} {t} {head} {from} {tail} {b} s gap =
 -- ---- the work words before the tables of a search, and the chains, stay as they are
 
 module _ {lo hi : ℕ} {w w′ : List ℕ} (le : viaAt ≤ lo) (o : Outside lo hi w w′) where
-  pub same-links : (m : ℕ) → m < 256 → SameLinks m (tables w) (tables w′)
-  same-links m h =
+  pub same-chains : (m : ℕ) → m < 256 → SameChains m (tables w) (tables w′)
+  same-chains m h =
       record {
         next-same = λ a al. next-before o (omega arith) a (omega arith);
         prev-same = λ b bl. prev-before o (omega arith) b (omega arith);
       }
 
   pub matching-kept : {m : ℕ} → m < 256 → Matching m (tables w) → Matching m (tables w′)
-  matching-kept {m} h k = matching-same k (same-links m h)
+  matching-kept {m} h k = matching-same k (same-chains m h)
 
 pub sized-kept : {w w′ : List ℕ} {base m : ℕ} → length w′ ≡ length w → Sized w base m → Sized w′ base m
 sized-kept e s = record { long = omega (arith, s .long); matrix = s .matrix; items = s .items }

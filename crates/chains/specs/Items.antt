@@ -91,7 +91,7 @@ pub record Searching (m : ℕ) (R : ℕ → ℕ → Type 0) (dead : ℕ → ℕ)
   pub showing : (b : ℕ) → b < from → b < m → R (t .queue head) b → t .seen b ≡ 1
 
 -- two tables with the same chains
-pub record SameLinks (m : ℕ) (t t′ : Tables) : Type 0 where
+pub record SameChains (m : ℕ) (t t′ : Tables) : Type 0 where
   pub next-same : (a : ℕ) → a < m → t′ .next a ≡ t .next a
   pub prev-same : (b : ℕ) → b < m → t′ .prev b ≡ t .prev b
 

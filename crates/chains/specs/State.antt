@@ -22,7 +22,7 @@ use Rattle.bits.specs.Work.{
 }
 use Rattle.chains.specs.Items.{
   Tables,
-  SameLinks,
+  SameChains,
   Matching,
   Pairing,
   Dead,
@@ -125,7 +125,7 @@ pub record ExtendedIn (w w′ : List ℕ) (base m a : ℕ) : Type 0 where
   pub outside : Outside nextAt noneAt w w′
   pub seen-dead : (b : ℕ) → b < m → tables w′ .seen b ≡ deads w′ b
   pub dead : Dead m (Pairs base w) (tables w′) (deads w′) (a + 1)
-  pub change : SameLinks m (tables w) (tables w′) ⊎ Shrunk m (Pairs base w) (tables w) (tables w′)
+  pub change : SameChains m (tables w) (tables w′) ⊎ Shrunk m (Pairs base w) (tables w) (tables w′)
 
 -- chains of pairs of the matrix
 pub record Chained (w : List ℕ) (base m : ℕ) : Type 0 where

@@ -1,5 +1,4 @@
 // The bytes of standard input.
-ghost use lib.ListN.{length};
 ghost use Rattle.io.specs.Counts.{Counts};
 use libc::STDIN_FILENO;
 

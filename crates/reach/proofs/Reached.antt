@@ -12,7 +12,8 @@ use Rattle.log.proofs.Laws.{links-below}
 use Rattle.bits.specs.Bits.{bit}
 use Rattle.bits.specs.Work.{linksAt, waysAt, matrixWords, Matrix, Outside, nextAt}
 use Rattle.bits.proofs.Frames.{outside-none, outside-more, outside-then, outside-wider, matrix-before}
-use Rattle.reach.specs.Reach.{NoneMarked, NoWays, LinksMarked, BitsRise, LinksRise, RisingReached, LinksCopied, Closed, WaysReached, ReachedLog}
+use Rattle.rising.specs.Rising.{NoWays, BitsRise, LinksRise, RisingReached}
+use Rattle.reach.specs.Reach.{NoneMarked, LinksMarked, LinksCopied, Closed, WaysReached, ReachedLog}
 
 -- ---- links that rise
 

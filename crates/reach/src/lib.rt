@@ -5,8 +5,9 @@ ghost use lib.ListN.{length};
 ghost use Rattle.log.specs.Words.{kind, number};
 ghost use Rattle.log.specs.Log.{graphOf, PassedLog};
 ghost use Rattle.bits.specs.Work.{nextAt};
-ghost use Rattle.reach.specs.Reach.{NoneMarked, NoWays, Marked, WordTaken, LinksMarked, RiseTest, EndsTaken, RowReached, LinkNoted};
-ghost use Rattle.reach.specs.Reach.{RisingReached, LinksCopied, RowClosed, RoundClosed, Closed, WaysReached, ReachedLog, FirstLoop};
+ghost use Rattle.rising.specs.Rising.{NoWays};
+ghost use Rattle.reach.specs.Reach.{NoneMarked, Marked, WordTaken, LinksMarked, LinksCopied, RowClosed, RoundClosed, Closed, WaysReached};
+ghost use Rattle.reach.specs.Reach.{ReachedLog, FirstLoop};
 use bits::LINKS;
 use bits::WAYS;
 
@@ -41,77 +42,6 @@ fn mark_links(log: &[u32], w: &mut [u32])
     while at + 1 < log.len() {
         from = take_word(log[at], from, w);
         at += 1;
-    }
-}
-
-// Whether each link goes to a higher number.
-fn rises(w: &[u32], n: usize) -> bool
-    requires { ⌜ (nextAt ≤ length (now w)) × (n ≤ 256) ⌝ }
-    ensures { λ r. ⌜ RiseTest (now (w .entry)) n r ⌝ }
-{
-    let mut a = 0;
-    while a < n {
-        if bits::first_bit(w, LINKS + 8 * a) <= a {
-            return false;
-        }
-        a += 1;
-    }
-    true
-}
-
-// Gives row `a` of the ways its links to episodes that are not in `linked`.
-fn take_ends(w: &mut [u32], a: usize, linked: &[u32])
-    requires { ⌜ (nextAt ≤ length (now w)) × (a < 256) × (length (now linked) ≡ 8) ⌝ }
-    ensures { λ _. ⌜ EndsTaken (now (w .entry)) (now (w .exit)) a (now (linked .entry)) ⌝ }
-{
-    let links = LINKS + 8 * a;
-    let ways = WAYS + 8 * a;
-    let mut i = 0;
-    while i < 8 {
-        let old = linked[i];
-        w[ways + i] = (w[links + i] | old) ^ old;
-        i += 1;
-    }
-}
-
-// Gives `a` its ways, where links rise, all above `a` have theirs, and those of them that have links are in `linked`: first the links to
-// episodes without links, then each link that is not among the ways yet, and the ways from there.
-fn reach_row(w: &mut [u32], a: usize, linked: &[u32])
-    requires { ⌜ (nextAt ≤ length (now w)) × (a < 256) × (length (now linked) ≡ 8) ⌝ }
-    ensures { λ _. ⌜ RowReached (now (w .entry)) (now (w .exit)) a (now (linked .entry)) ⌝ }
-{
-    take_ends(w, a, linked);
-    let links = LINKS + 8 * a;
-    let ways = WAYS + 8 * a;
-    let mut b = bits::next_new(w, links, ways, a + 1);
-    while b < 256 {
-        bits::set_bit(w, ways, b);
-        bits::join_row(w, WAYS, a, b);
-        b = bits::next_new(w, links, ways, b + 1);
-    }
-}
-
-// Notes in `linked` whether `a` has a link.
-fn note_linked(w: &[u32], a: usize, linked: &mut [u32])
-    requires { ⌜ (nextAt ≤ length (now w)) × (a < 256) × (length (now linked) ≡ 8) ⌝ }
-    ensures { λ _. ⌜ LinkNoted (now (w .entry)) a (now (linked .entry)) (now (linked .exit)) ⌝ }
-{
-    if bits::first_bit(w, LINKS + 8 * a) < 256 {
-        bits::set_bit(linked, 0, a);
-    }
-}
-
-// The ways of links that rise, from the last episode to the first.
-fn reach_rising(w: &mut [u32], n: usize)
-    requires { ⌜ (nextAt ≤ length (now w)) × (n ≤ 256) × NoWays (now w) ⌝ }
-    ensures { λ _. ⌜ RisingReached (now (w .entry)) (now (w .exit)) n ⌝ }
-{
-    let mut linked = [0u32; 8];
-    let mut a = n;
-    while 0 < a {
-        a -= 1;
-        reach_row(w, a, &linked);
-        note_linked(w, a, &mut linked);
     }
 }
 
@@ -166,8 +96,8 @@ fn reach_ways(w: &mut [u32], n: usize)
     requires { ⌜ (nextAt ≤ length (now w)) × (n ≤ 256) × NoWays (now w) ⌝ }
     ensures { λ _. ⌜ WaysReached (now (w .entry)) (now (w .exit)) n ⌝ }
 {
-    if rises(w, n) {
-        reach_rising(w, n);
+    if rising::rises(w, n) {
+        rising::reach_rising(w, n);
         return;
     }
     copy_links(w);

@@ -3,7 +3,7 @@ use mathlib.Core.Path.{_≡_}
 use mathlib.Core.List.{List}
 use Prim.Native.Nat.{ℕ, _+_}
 use Rattle.log.specs.Answer.{Answer, given, refused}
-use Rattle.log.specs.Log.{service, questions}
+use Rattle.log.specs.Log.{service}
 use Rattle.parsing.specs.Whole.{ThreadNumber, ThreadStretch}
 use Rattle.report.specs.Report.{Left, outcomeAnswer}
 use Rattle.fair_copy.specs.Copied.{CopyLeft, copyAnswer}

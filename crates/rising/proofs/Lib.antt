@@ -1,0 +1,2 @@
+-- The ways of links that rise.
+pub mod Rising
