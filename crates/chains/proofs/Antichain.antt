@@ -17,7 +17,7 @@ use lib.ListN.{length}
 use Rattle.order.specs.Order.{All, On, StrictOrder, Chain, single, more, Antichain}
 use Rattle.order.proofs.Lists.{all-nil, all-cons}
 use Rattle.order.proofs.Pigeonhole.{antichain-le-chains, chain-holds-one}
-use Rattle.chains.specs.Items.{Tables, Matching, Steps, stay, go as ahead, Open, Reached, from-end, from-next, Exhausted, memberTest, members}
+use Rattle.searching.specs.Items.{Tables, Matching, Steps, stay, go as ahead, Open, Reached, from-end, from-next, Exhausted, memberTest, members}
 use Rattle.chains.proofs.Members.{member-open, open-member}
 use Rattle.paths.proofs.Passing.{passing-below, passing-test, test-passing, passing-nodup}
 use Rattle.chains.proofs.Steps.{

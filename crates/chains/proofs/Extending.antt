@@ -9,14 +9,14 @@ use lib.ListN.{length, getD}
 use Rattle.bits.specs.Bits.{RowCopied}
 use Rattle.bits.specs.Work.{nextAt, viaAt, seenAt, deadAt, noneAt, usedWords, Outside}
 use Rattle.bits.proofs.Frames.{outside-none, outside-then, outside-wider, bit-before}
-use Rattle.chains.specs.Items.{SameChains, Dead, Trail, Flipping, Flipped, Extended}
-use Rattle.chains.specs.State.{tables, deads, Pairs, Extendable, SearchedIn, FlippedIn, ExtendedIn}
-use Rattle.chains.proofs.Deads.{dead-moved, dead-skip, dead-kept}
+use Rattle.searching.specs.Items.{SameChains, Dead, Trail, Flipping, Flipped, Extended}
+use Rattle.searching.specs.State.{tables, deads, Pairs, Extendable, SearchedIn, FlippedIn, ExtendedIn}
+use Rattle.searching.proofs.Deads.{dead-moved, dead-skip, dead-kept}
 use Rattle.chains.proofs.Flips.{flip-on, flip-end}
-use Rattle.chains.proofs.Frames.{via-behind, queue-behind, dead-behind}
-use Rattle.chains.proofs.Marks.{copied-outside}
-use Rattle.chains.proofs.Relations.{chains-none, trail-within, flipping-within, shrunk-within, shrunk-from, shrunk-to}
-use Rattle.chains.proofs.Showing.{flipped-fewer, matching-kept, same-chains, forth, back}
+use Rattle.searching.proofs.Frames.{via-behind, queue-behind, dead-behind}
+use Rattle.searching.proofs.Marks.{copied-outside}
+use Rattle.searching.proofs.Relations.{chains-none, trail-within, flipping-within, shrunk-within, shrunk-from, shrunk-to}
+use Rattle.searching.proofs.Showing.{flipped-fewer, matching-kept, same-chains, forth, back}
 
 -- what is left of the way back: the place, plus one, from which the item `old - 1` was seen, or 0 where `old` is 0
 unfoldable pub left : List ℕ → ℕ → ℕ

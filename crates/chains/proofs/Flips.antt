@@ -4,7 +4,7 @@ use mathlib.Core.Logic.{_⊎_, inl, inr, _≢_}
 use Prim.Native.Nat.{ℕ, _+_, _≤_, _<_}
 use native.Mathlib.Decide.{ℕ-discrete}
 use native.Mathlib.Omega.{arith}
-use Rattle.chains.specs.Items.{Tables, SeenFrom, Trail, Extended, Flipping, Flipped}
+use Rattle.searching.specs.Items.{Tables, SeenFrom, Trail, Extended, Flipping, Flipped}
 
 module _ {m : ℕ} {R : ℕ → ℕ → Type 0} {dead : ℕ → ℕ} {t₀ t : Tables} {tail b : ℕ} (p : ℕ) where
   -- the item from which `b` was seen

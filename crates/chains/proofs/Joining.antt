@@ -6,12 +6,12 @@ use Prim.Native.Nat.{ℕ, _+_, _≤_, _<_}
 use native.Mathlib.Omega.{arith}
 use Rattle.bits.specs.Work.{nextAt, Outside, noneAt}
 use Rattle.bits.proofs.Frames.{outside-then, outside-wider}
-use Rattle.chains.specs.Items.{Dead}
-use Rattle.chains.specs.State.{tables, deads, Pairs, Sized, ForgottenIn, PairedIn, Extendable, ExtendedIn, Chained, JoinedIn}
-use Rattle.chains.proofs.Deads.{dead-none, dead-moved, dead-exhausted}
-use Rattle.chains.proofs.Relations.{chains-none, exhausted-within}
-use Rattle.chains.proofs.Searches.{matching-same}
-use Rattle.chains.proofs.Showing.{matching-kept, same-chains, sized-kept, forth, back}
+use Rattle.searching.specs.Items.{Dead}
+use Rattle.searching.specs.State.{tables, deads, Pairs, Sized, ForgottenIn, PairedIn, Extendable, ExtendedIn, Chained, JoinedIn}
+use Rattle.searching.proofs.Deads.{dead-none, dead-moved, dead-exhausted}
+use Rattle.searching.proofs.Relations.{chains-none, exhausted-within}
+use Rattle.searching.proofs.Searches.{matching-same}
+use Rattle.searching.proofs.Showing.{matching-kept, same-chains, sized-kept, forth, back}
 
 -- after the first pairs
 module _ (w w′ : List ℕ) (base m : ℕ) (z : Sized w base m) (p : PairedIn w w′ base m m) where

@@ -1,20 +1,12 @@
 -- Theorems on chains of items, and the functions' proofs.
-pub mod Searches
 pub mod Flips
 pub mod Counts
-pub mod Relations
-pub mod Deads
 pub mod Cycle
 pub mod Members
 pub mod Steps
 pub mod Antichain
 pub mod Threads
 pub mod Reports
-pub mod Frames
-pub mod Words
-pub mod Marks
-pub mod Showing
-pub mod Looking
 pub mod Pairs
 pub mod Extending
 pub mod Joining

@@ -8,13 +8,13 @@ use lib.ListN.{length}
 use Rattle.bits.specs.Work.{linksAt, nextAt, noneAt, usedWords, matrixWords, Matrix, Outside}
 use Rattle.bits.proofs.Frames.{outside-then, outside-wider}
 use Rattle.paths.specs.Graph.{Graph, EndsBelow, Link, Way}
-use Rattle.chains.specs.Items.{SameChains, Dead, Shrunk}
-use Rattle.chains.specs.Cycles.{Selves}
-use Rattle.chains.specs.State.{tables, deads, Pairs, Sized, ForgottenIn, SelvesIn, Extendable, ExtendedIn, LoopedIn}
+use Rattle.searching.specs.Items.{SameChains, Dead, Shrunk}
+use Rattle.searching.specs.Cycles.{Selves}
+use Rattle.searching.specs.State.{tables, deads, Pairs, Sized, ForgottenIn, SelvesIn, Extendable, ExtendedIn, LoopedIn}
 use Rattle.chains.proofs.Cycle.{selves-matching, no-way-back}
-use Rattle.chains.proofs.Deads.{dead-none, dead-moved}
-use Rattle.chains.proofs.Relations.{Within, chains-none, links-then, shrunk-within, shrunk-from}
-use Rattle.chains.proofs.Showing.{matching-kept, same-chains, sized-kept, forth, back}
+use Rattle.searching.proofs.Deads.{dead-none, dead-moved}
+use Rattle.searching.proofs.Relations.{Within, chains-none, links-then, shrunk-within, shrunk-from}
+use Rattle.searching.proofs.Showing.{matching-kept, same-chains, sized-kept, forth, back}
 
 -- `e` are the words at first, `w₁` those with each item but `v` behind itself, and in `w₂` besides nothing is seen or dead
 module _ (e w₁ w₂ : List ℕ) (m v : ℕ) (long : usedWords ≤ length e) (items : m < 256) (s : SelvesIn e w₁ m v) (n : ForgottenIn w₁ w₂) where

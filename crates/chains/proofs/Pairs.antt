@@ -9,12 +9,12 @@ use lib.ListN.{getD}
 use Rattle.bits.specs.Bits.{BitSet, NextNew}
 use Rattle.bits.specs.Work.{nextAt, prevAt, viaAt, seenAt, Outside, noneAt}
 use Rattle.bits.proofs.Frames.{outside-none, outside-then, outside-wider, bit-behind}
-use Rattle.chains.specs.Items.{Tables, Pairing, Trail, Flipping, Flipped, Shrunk}
-use Rattle.chains.specs.State.{tables, Pairs, Sized, ForgottenIn, PutIn, PairedIn}
+use Rattle.searching.specs.Items.{Tables, Pairing, Trail, Flipping, Flipped, Shrunk}
+use Rattle.searching.specs.State.{tables, Pairs, Sized, ForgottenIn, PutIn, PairedIn}
 use Rattle.chains.proofs.Flips.{flip-end}
-use Rattle.chains.proofs.Frames.{next-before, prev-before}
-use Rattle.chains.proofs.Relations.{pairing-within}
-use Rattle.chains.proofs.Showing.{sized-kept, forth, back}
+use Rattle.searching.proofs.Frames.{next-before, prev-before}
+use Rattle.searching.proofs.Relations.{pairing-within}
+use Rattle.searching.proofs.Showing.{sized-kept, forth, back}
 
 module _ {m : ℕ} {R : ℕ → ℕ → Type 0} {t : Tables} {a : ℕ} (s : Pairing m R t a) where
   -- `a` gets none

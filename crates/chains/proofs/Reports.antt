@@ -13,7 +13,7 @@ use Rattle.paths.proofs.Ways.{way-trans, way-order}
 use Rattle.paths.proofs.Threads.{thread-chain}
 use Rattle.paths.proofs.Fits.{thread-apart-le}
 use Rattle.paths.proofs.Duality.{equal-smallest}
-use Rattle.chains.specs.Items.{Tables, Matching, stay, Exhausted, memberTest, members}
+use Rattle.searching.specs.Items.{Tables, Matching, stay, Exhausted, memberTest, members}
 use Rattle.chains.specs.Threads.{ThreadsOf}
 use Rattle.paths.proofs.Passing.{passing-below, passing-nodup}
 use Rattle.chains.proofs.Antichain as Antichain

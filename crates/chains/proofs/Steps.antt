@@ -11,7 +11,7 @@ use Rattle.order.specs.Order.{All, Transitive, StrictOrder, Chain, single, more
 use Rattle.order.proofs.Lists.{all-nil, all-cons}
 use Rattle.order.proofs.Chains.{chain-nodup}
 use Rattle.paths.proofs.Numbers.{nodup-below}
-use Rattle.chains.specs.Items.{Tables, Matching, Steps, stay, go as ahead}
+use Rattle.searching.specs.Items.{Tables, Matching, Steps, stay, go as ahead}
 
 module _ {next : ℕ → ℕ} where
   pub steps-trans : {a b c : ℕ} → Steps next a b → Steps next b c → Steps next a c

@@ -3,7 +3,7 @@ use mathlib.Core.Logic.{_⊎_}
 use mathlib.Core.List.{List, [], _∷_, List·Memᴰ as Mem}
 use Prim.Native.Nat.{ℕ, _<_}
 use Rattle.paths.specs.Graph.{Graph, Thread}
-use Rattle.chains.specs.Items.{Steps}
+use Rattle.searching.specs.Items.{Steps}
 
 -- `th` is a thread that holds the chain of `v`
 pub record ThreadOf (g : Graph) (next : ℕ → ℕ) (v : ℕ) (th : List ℕ) : Type 0 where

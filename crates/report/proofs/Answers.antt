@@ -10,11 +10,11 @@ use Rattle.bits.specs.Work.{waysAt, seenAt}
 use Rattle.bits.proofs.Rows.{bit-lt}
 use Rattle.reach.specs.Reach.{FirstLoop}
 use Rattle.bits.proofs.Frames.{matrix-before}
-use Rattle.chains.specs.Items.{memberTest, members}
+use Rattle.searching.specs.Items.{memberTest, members}
 use Rattle.chains.specs.Threads.{ThreadsOf}
-use Rattle.chains.specs.State.{tables, JoinedIn, LoopedIn}
+use Rattle.searching.specs.State.{tables, JoinedIn, LoopedIn}
 use Rattle.paths.proofs.Passing.{passing-rising}
-use Rattle.chains.proofs.Relations.{exhausted-within}
+use Rattle.searching.proofs.Relations.{exhausted-within}
 use Rattle.chains.proofs.Cycle.{loop-least}
 use Rattle.chains.proofs.Reports as reports
 use Rattle.writing.specs.Writing.{Solved, ReportWritten, Looping, LoopWritten}

@@ -5,8 +5,8 @@ use Prim.Native.Nat.{ℕ, _≤_}
 use native.Mathlib.Omega.{arith}
 use lib.ListN.{getD, set}
 use Rattle.log.specs.Words.{word}
-use Rattle.chains.specs.Items.{memberTest, members}
-use Rattle.chains.specs.State.{tables}
+use Rattle.searching.specs.Items.{memberTest, members}
+use Rattle.searching.specs.State.{tables}
 use Rattle.writing.specs.Layout.{BeginsWith}
 use Rattle.writing.specs.Writing.{ApartWritten}
 use Rattle.writing.proofs.Buffers.{begins-first}

@@ -9,8 +9,8 @@ use lib.ListN.{length, take, drop, length-append, length-drop}
 use Rattle.paths.specs.Graph.{Graph, Way, Thread}
 use Rattle.bits.specs.Work.{seenAt}
 use Rattle.bits.proofs.Rows.{bit-lt}
-use Rattle.chains.specs.Items.{Matching, Exhausted, memberTest, members}
-use Rattle.chains.specs.State.{tables}
+use Rattle.searching.specs.Items.{Matching, Exhausted, memberTest, members}
+use Rattle.searching.specs.State.{tables}
 use Rattle.chains.specs.Threads.{ThreadsOf}
 use Rattle.paths.specs.Passing.{passing}
 use Rattle.paths.proofs.Passing.{passing-more, passing-same, length-passing, passing-le}

@@ -26,8 +26,8 @@ use Rattle.paths.proofs.Numbers.{nodup-below}
 use Rattle.log.specs.Words.{word}
 use Rattle.bits.specs.Bits.{bit}
 use Rattle.bits.specs.Work.{waysAt}
-use Rattle.chains.specs.Items.{Steps}
-use Rattle.chains.specs.State.{tables}
+use Rattle.searching.specs.Items.{Steps}
+use Rattle.searching.specs.State.{tables}
 use Rattle.chains.proofs.Steps.{steps-trans, steps-same, steps-first, steps-last, steps-end, next-below, steps-below, steps-join}
 use Rattle.writing.specs.Layout.{BeginsWith, threadWords}
 use Rattle.writing.specs.Writing.{Solved, StartOf, HopTo, ThreadWritten}

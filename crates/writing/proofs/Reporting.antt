@@ -8,8 +8,8 @@ use lib.ListN.{length, set, take, drop, length-append, length-drop, length-map}
 use Rattle.paths.specs.Graph.{Graph}
 use Rattle.paths.proofs.Fits.{product-le}
 use Rattle.log.specs.Words.{word}
-use Rattle.chains.specs.Items.{memberTest, members}
-use Rattle.chains.specs.State.{tables}
+use Rattle.searching.specs.Items.{memberTest, members}
+use Rattle.searching.specs.State.{tables}
 use Rattle.writing.specs.Layout.{BeginsWith, threadsWords, ended, reportWords, reportNeed}
 use Rattle.writing.specs.Writing.{Solved, ApartWritten, ThreadsWritten, ReportWritten}
 use Rattle.writing.proofs.Buffers.{length-snoc, begins-length, begins-more, begins-part, lent-part, lent-rest}

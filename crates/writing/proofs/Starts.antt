@@ -11,8 +11,8 @@ use Rattle.paths.proofs.Ways.{way-trans}
 use Rattle.bits.specs.Bits.{bit, sum}
 use Rattle.bits.specs.Work.{waysAt, prevAt}
 use Rattle.bits.proofs.Rows.{bit-lt}
-use Rattle.chains.specs.Items.{Matching, Steps, stay, go as ahead}
-use Rattle.chains.specs.State.{tables}
+use Rattle.searching.specs.Items.{Matching, Steps, stay, go as ahead}
+use Rattle.searching.specs.State.{tables}
 use Rattle.chains.proofs.Counts.{sum-less}
 use Rattle.writing.specs.Writing.{Solved, StartOf}
 

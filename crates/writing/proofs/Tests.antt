@@ -11,8 +11,8 @@ use borrow.Author.Tests.{eq-eqb, ne-eqb}
 use Rattle.bits.specs.Bits.{bit}
 use Rattle.bits.specs.Work.{nextAt, seenAt}
 use Rattle.bits.proofs.Rows.{bit-lt}
-use Rattle.chains.specs.Items.{memberTest}
-use Rattle.chains.specs.State.{tables}
+use Rattle.searching.specs.Items.{memberTest}
+use Rattle.searching.specs.State.{tables}
 
 module _ (w : List ℕ) (v : ℕ) where
   abbrev behind : ℕ

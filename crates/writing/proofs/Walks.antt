@@ -8,9 +8,9 @@ use lib.ListN.{length, getD, set, length-append, length-map, length-set}
 use Rattle.paths.specs.Graph.{Graph, Link}
 use Rattle.log.specs.Words.{word}
 use Rattle.bits.specs.Work.{nextAt}
-use Rattle.chains.specs.Items.{Shrunk}
-use Rattle.chains.specs.Cycles.{Selves, Walking}
-use Rattle.chains.specs.State.{tables}
+use Rattle.searching.specs.Items.{Shrunk}
+use Rattle.searching.specs.Cycles.{Selves, Walking}
+use Rattle.searching.specs.State.{tables}
 use Rattle.chains.proofs.Cycle.{shrunk-next, walk-start, walk-on, walk-short, walk-end}
 use Rattle.writing.specs.Layout.{BeginsWith, loopWords}
 use Rattle.writing.specs.Writing.{Looping, LoopWritten}

@@ -8,10 +8,10 @@ use Rattle.paths.specs.Graph.{Graph, EndsBelow, Link, Way, Acyclic, Loop}
 use Rattle.log.specs.Words.{word}
 use Rattle.bits.specs.Bits.{bit}
 use Rattle.bits.specs.Work.{linksAt, waysAt, noneAt, usedWords, Matrix}
-use Rattle.chains.specs.Items.{Tables, Matching, Steps, Exhausted, Shrunk, members}
-use Rattle.chains.specs.Cycles.{Selves}
+use Rattle.searching.specs.Items.{Tables, Matching, Steps, Exhausted, Shrunk, members}
+use Rattle.searching.specs.Cycles.{Selves}
 use Rattle.chains.specs.Threads.{ThreadOf, ThreadsOf}
-use Rattle.chains.specs.State.{tables}
+use Rattle.searching.specs.State.{tables}
 use Rattle.writing.specs.Layout.{threadWords, threadsWords, reportWords, loopWords, BeginsWith}
 
 -- The work words hold the links and the ways of an acyclic graph with `n` episodes, as few chains of ways as can be, and the exhausted

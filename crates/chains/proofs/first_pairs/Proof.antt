@@ -2,9 +2,9 @@
 -- Assumes nothing.
 use Prim.Native.Nat.{_+_, _-_, _≤_}
 use native.Mathlib.Omega.{arith}
-use Rattle.chains.specs.State.{Sized, PairedIn}
+use Rattle.searching.specs.State.{Sized, PairedIn}
 use Rattle.chains.proofs.Pairs.{pairs-start, pair-asked, paired-from, pairs-done}
-use Rattle.chains.proofs.Showing.{sized-kept}
+use Rattle.searching.proofs.Showing.{sized-kept}
 use Rattle.chains.proofs.first_pairs.Statement.{statement}
 use Rattle.chains.proofs.first_pairs.Tie as tie
 

@@ -6,8 +6,8 @@ use mathlib.Core.Path.{sym, _∙_}
 use Prim.Native.Nat.{_-_}
 use native.Mathlib.Omega.{arith}
 use lib.ListN.{length-set}
-use Rattle.chains.specs.Items.{memberTest}
-use Rattle.chains.specs.State.{tables}
+use Rattle.searching.specs.Items.{memberTest}
+use Rattle.searching.specs.State.{tables}
 use Rattle.writing.proofs.Listing.{Listing, listing-none, listing-more, listing-same}
 use Rattle.writing.proofs.Apart.{apart-done}
 use Rattle.writing.proofs.write_apart.Statement.{statement}

@@ -5,7 +5,7 @@ use mathlib.Core.Logic.{_⊎_, inl, inr, ⊎-elim, _≢_}
 use Prim.Native.Nat.{ℕ, zero, suc, _+_, _≤_, _<_}
 use native.Mathlib.Decide.{ℕ-discrete}
 use native.Mathlib.Omega.{arith}
-use Rattle.chains.specs.Items.{
+use Rattle.searching.specs.Items.{
   Tables,
   SameChains,
   Matching,
@@ -19,7 +19,7 @@ use Rattle.chains.specs.Items.{
   Searching,
   Extended,
 }
-use Rattle.chains.proofs.Relations.{Within, reached-within}
+use Rattle.searching.proofs.Relations.{Within, reached-within}
 
 -- with more items searched from
 reached-more : {m k l b : ℕ} {R : ℕ → ℕ → Type 0} {next : ℕ → ℕ} → k ≤ l → Reached m (Before k next R) next b → Reached m (Before l next R) next b

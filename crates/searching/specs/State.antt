@@ -20,7 +20,7 @@ use Rattle.bits.specs.Work.{
   noneAt,
   matrixWords,
 }
-use Rattle.chains.specs.Items.{
+use Rattle.searching.specs.Items.{
   Tables,
   SameChains,
   Matching,
@@ -34,7 +34,7 @@ use Rattle.chains.specs.Items.{
   Flipped,
   Shrunk,
 }
-use Rattle.chains.specs.Cycles.{Selves}
+use Rattle.searching.specs.Cycles.{Selves}
 
 -- the tables in the work words
 abbrev pub tables : List ℕ → Tables

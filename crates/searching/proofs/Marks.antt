@@ -6,7 +6,7 @@ use Rattle.bits.specs.Bits.{RowCopied}
 use Rattle.bits.specs.Work.{seenAt, deadAt, noneAt, Outside}
 use Rattle.bits.proofs.Rows.{bits-zero}
 use Rattle.bits.proofs.Frames.{Cleared}
-use Rattle.chains.specs.State.{ForgottenIn}
+use Rattle.searching.specs.State.{ForgottenIn}
 
 pub forgotten : (w w′ : List ℕ) → Cleared seenAt noneAt w w′ → ForgottenIn w w′
 forgotten w w′ c =

@@ -1,10 +1,10 @@
--- `chains::put_behind` meets its contract. Assumes nothing.
+-- `searching::put_behind` meets its contract. Assumes nothing.
 use borrow.Author.Needs.{needs}
 use native.Mathlib.Omega.{arith}
 use lib.ListN.{length-set}
-use Rattle.chains.proofs.Words.{put}
-use Rattle.chains.proofs.put_behind.Statement.{statement}
-use Rattle.chains.proofs.put_behind.Tie as tie
+use Rattle.searching.proofs.Words.{put}
+use Rattle.searching.proofs.put_behind.Statement.{statement}
+use Rattle.searching.proofs.put_behind.Tie as tie
 
 add-w : tie.Need-add-w
 add-w c = search needs

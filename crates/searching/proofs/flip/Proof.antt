@@ -1,11 +1,11 @@
--- `chains::flip` meets its contract. Assumes nothing.
+-- `searching::flip` meets its contract. Assumes nothing.
 use borrow.Author.Needs.{needs}
 use Prim.Native.Nat.{_+_, _-_}
 use native.Mathlib.Omega.{arith}
 use Rattle.bits.specs.Work.{nextAt}
-use Rattle.chains.specs.State.{tables}
-use Rattle.chains.proofs.flip.Statement.{statement}
-use Rattle.chains.proofs.flip.Tie as tie
+use Rattle.searching.specs.State.{tables}
+use Rattle.searching.proofs.flip.Statement.{statement}
+use Rattle.searching.proofs.flip.Tie as tie
 
 add-place : tie.Need-add-place
 add-place c = search needs

@@ -1,12 +1,12 @@
--- `chains::search` meets its contract. The loop's invariant, `Looking`: the items before `head` have shown all that they have. The measure is
+-- `searching::search` meets its contract. The loop's invariant, `Looking`: the items before `head` have shown all that they have. The measure is
 -- how many places of the queue there can be from `head` on. Assumes nothing.
 use Prim.Native.Nat.{_-_}
 use native.Mathlib.Omega.{arith}
 use lib.ListN.{set}
 use Rattle.bits.specs.Work.{queueAt}
-use Rattle.chains.proofs.Looking.{Looking, looking-start, looking-more, looking-found, looking-end}
-use Rattle.chains.proofs.search.Statement.{statement}
-use Rattle.chains.proofs.search.Tie as tie
+use Rattle.searching.proofs.Looking.{Looking, looking-start, looking-more, looking-found, looking-end}
+use Rattle.searching.proofs.search.Statement.{statement}
+use Rattle.searching.proofs.search.Tie as tie
 
 abbrev Inv-loop : tie.InvT-loop
 Inv-loop w₀ base m a tail₀ head₀ w tail head = Looking w₀ w base m a head tail

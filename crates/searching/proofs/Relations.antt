@@ -3,7 +3,7 @@ use mathlib.Core.Path.{_≡_, refl, _∙_}
 use mathlib.Core.Logic.{inl, inr, ⊎-elim, _≢_}
 use Prim.Native.Nat.{ℕ, _<_}
 use native.Mathlib.Omega.{arith}
-use Rattle.chains.specs.Items.{
+use Rattle.searching.specs.Items.{
   Tables,
   Reached,
   from-end,
@@ -17,7 +17,7 @@ use Rattle.chains.specs.Items.{
   Shrunk,
   SameChains,
 }
-use Rattle.chains.proofs.Searches.{matching-same}
+use Rattle.searching.proofs.Searches.{matching-same}
 
 -- each pair of items in R is in R′
 abbrev pub Within : ℕ → (ℕ → ℕ → Type 0) → (ℕ → ℕ → Type 0) → Type 0

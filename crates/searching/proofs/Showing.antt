@@ -7,12 +7,12 @@ use native.Mathlib.Omega.{arith}
 use lib.ListN.{length, getD}
 use Rattle.bits.specs.Bits.{NextNew}
 use Rattle.bits.specs.Work.{nextAt, prevAt, viaAt, queueAt, seenAt, deadAt, Outside}
-use Rattle.chains.specs.Items.{Tables, SameChains, Matching, Searching, Saw, Flipped}
-use Rattle.chains.specs.State.{tables, deads, Pairs, Sized, SawIn, ShownIn}
+use Rattle.searching.specs.Items.{Tables, SameChains, Matching, Searching, Saw, Flipped}
+use Rattle.searching.specs.State.{tables, deads, Pairs, Sized, SawIn, ShownIn}
 use Rattle.bits.proofs.Frames.{outside-none, outside-then}
-use Rattle.chains.proofs.Frames.{pairs-kept, pairs-were, next-before, prev-before}
-use Rattle.chains.proofs.Relations.{Within}
-use Rattle.chains.proofs.Searches.{matching-same, saw-matching, saw-searching, item-done, found}
+use Rattle.searching.proofs.Frames.{pairs-kept, pairs-were, next-before, prev-before}
+use Rattle.searching.proofs.Relations.{Within}
+use Rattle.searching.proofs.Searches.{matching-same, saw-matching, saw-searching, item-done, found}
 
 -- of more items than there are
 saw-fewer : {m n : ℕ} {t t′ : Tables} {head b tail : ℕ} → n ≤ m → Saw m t t′ head b tail → Saw n t t′ head b tail

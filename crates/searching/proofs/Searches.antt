@@ -17,7 +17,7 @@ use native.Mathlib.Omega.{arith}
 use lib.ListN.{length}
 use Rattle.order.proofs.Lists.{nodup-cons}
 use Rattle.paths.proofs.Numbers.{nodup-below}
-use Rattle.chains.specs.Items.{
+use Rattle.searching.specs.Items.{
   Tables,
   Matching,
   SameChains,

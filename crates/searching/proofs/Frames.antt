@@ -5,7 +5,7 @@ use Prim.Native.Nat.{ℕ, _+_, _*_, _≤_, _<_}
 use native.Mathlib.Omega.{arith}
 use Rattle.bits.specs.Work.{nextAt, prevAt, viaAt, queueAt, deadAt, Outside, matrixWords}
 use Rattle.bits.proofs.Frames.{bit-before, bit-behind}
-use Rattle.chains.specs.State.{tables, deads, Pairs}
+use Rattle.searching.specs.State.{tables, deads, Pairs}
 
 module _ {lo hi : ℕ} {w w′ : List ℕ} (o : Outside lo hi w w′) where
   -- a matrix before what is written, forth and back

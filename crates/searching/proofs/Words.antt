@@ -9,8 +9,8 @@ use lib.ListN.{length, getD, set, length-set}
 use lib.Seq.{getD-set-same, getD-set-other}
 use Rattle.bits.specs.Bits.{bit, BitSet}
 use Rattle.bits.specs.Work.{nextAt, prevAt, viaAt, queueAt, seenAt, deadAt, usedWords, Outside}
-use Rattle.chains.specs.Items.{Flipped}
-use Rattle.chains.specs.State.{tables, PutIn, SawIn, SelvesIn}
+use Rattle.searching.specs.Items.{Flipped}
+use Rattle.searching.specs.State.{tables, PutIn, SawIn, SelvesIn}
 use Rattle.bits.proofs.Frames.{outside-none, outside-then, outside-set, outside-more, bit-stored}
 
 -- ---- an item is seen

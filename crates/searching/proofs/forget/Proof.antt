@@ -1,11 +1,11 @@
--- `chains::forget` meets its contract. Assumes nothing.
+-- `searching::forget` meets its contract. Assumes nothing.
 use borrow.Author.Needs.{needs}
 use native.Mathlib.Omega.{arith}
 use Rattle.bits.specs.Work.{noneAt}
 use Rattle.bits.proofs.Frames.{part-cleared}
-use Rattle.chains.proofs.Marks.{forgotten}
-use Rattle.chains.proofs.forget.Statement.{statement}
-use Rattle.chains.proofs.forget.Tie as tie
+use Rattle.searching.proofs.Marks.{forgotten}
+use Rattle.searching.proofs.forget.Statement.{statement}
+use Rattle.searching.proofs.forget.Tie as tie
 
 mul-clear : tie.Need-mul-clear
 mul-clear c = search needs

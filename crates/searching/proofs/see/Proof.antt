@@ -1,10 +1,10 @@
--- `chains::see` meets its contract.
+-- `searching::see` meets its contract.
 use borrow.Author.Needs.{needs}
 use native.Mathlib.Omega.{arith}
 use lib.ListN.{length-set}
-use Rattle.chains.proofs.Words.{saw-first, saw-queued}
-use Rattle.chains.proofs.see.Statement.{statement}
-use Rattle.chains.proofs.see.Tie as tie
+use Rattle.searching.proofs.Words.{saw-first, saw-queued}
+use Rattle.searching.proofs.see.Statement.{statement}
+use Rattle.searching.proofs.see.Tie as tie
 
 set-bit-requires : tie.Need-set-bit-requires
 set-bit-requires c κs = search needs

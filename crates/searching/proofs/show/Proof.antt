@@ -1,10 +1,10 @@
--- `chains::show` meets its contract. The loop's invariant, `Showing`: the item at `head` has shown what it has below `b`, and `b` is the next
+-- `searching::show` meets its contract. The loop's invariant, `Showing`: the item at `head` has shown what it has below `b`, and `b` is the next
 -- new one. The measure is what is left of the row's bits. Assumes nothing.
 use Prim.Native.Nat.{_-_}
 use native.Mathlib.Omega.{arith}
-use Rattle.chains.proofs.Showing.{Showing, showing-start, showing-more, showing-found, showing-end}
-use Rattle.chains.proofs.show.Statement.{statement}
-use Rattle.chains.proofs.show.Tie as tie
+use Rattle.searching.proofs.Showing.{Showing, showing-start, showing-more, showing-found, showing-end}
+use Rattle.searching.proofs.show.Statement.{statement}
+use Rattle.searching.proofs.show.Tie as tie
 
 abbrev Inv-loop : tie.InvT-loop
 Inv-loop w₀ base m head tail row end₀ b₀ w end b = Showing w₀ w base m head row end b

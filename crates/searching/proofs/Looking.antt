@@ -6,14 +6,14 @@ use native.Mathlib.Omega.{arith}
 use lib.ListN.{set}
 use lib.Seq.{getD-set-same}
 use Rattle.bits.specs.Work.{viaAt, queueAt, seenAt, deadAt, Outside}
-use Rattle.chains.specs.Items.{Matching, Searching}
-use Rattle.chains.specs.State.{tables, deads, Pairs, Sized, Extendable, ShownIn, SearchedIn}
+use Rattle.searching.specs.Items.{Matching, Searching}
+use Rattle.searching.specs.State.{tables, deads, Pairs, Sized, Extendable, ShownIn, SearchedIn}
 use Rattle.bits.proofs.Frames.{outside-none, outside-then, outside-set, bit-stored}
-use Rattle.chains.proofs.Deads.{dead-moved, dead-more}
-use Rattle.chains.proofs.Frames.{dead-behind, next-before, prev-before}
-use Rattle.chains.proofs.Relations.{Within, chains-none, searching-within, trail-within, flipping-within}
-use Rattle.chains.proofs.Searches.{injective-le, search-start}
-use Rattle.chains.proofs.Showing.{matching-kept, same-chains, sized-kept, forth, back}
+use Rattle.searching.proofs.Deads.{dead-moved, dead-more}
+use Rattle.searching.proofs.Frames.{dead-behind, next-before, prev-before}
+use Rattle.searching.proofs.Relations.{Within, chains-none, searching-within, trail-within, flipping-within}
+use Rattle.searching.proofs.Searches.{injective-le, search-start}
+use Rattle.searching.proofs.Showing.{matching-kept, same-chains, sized-kept, forth, back}
 
 -- the items before `head` have shown all; the words were `w₀`
 pub record Looking (w₀ w : List ℕ) (base m a head tail : ℕ) : Type 0 where
