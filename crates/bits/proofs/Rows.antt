@@ -163,9 +163,9 @@ module _ (w : List ℕ) (row i : ℕ) (none : NoneBefore w row i) where
       go (yes q) = none c q
       go (no q) = let e : c / 32 ≡ i = omega arith in bits-zero w row c (rw e z)
 
--- ---- a row copied to another
+-- ---- words copied
 
--- the first `i` words of the row at `to` are those of the row at `from`
+-- the first `i` words from `to` on are those from `from` on
 pub record Copying (w w′ : List ℕ) (to from i : ℕ) : Type 0 where
   pub same-length : length w′ ≡ length w
   pub done : (j : ℕ) → j < i → getD w′ (to + j) 0 ≡ getD w (from + j) 0
@@ -176,9 +176,10 @@ pub copying-none : (w : List ℕ) (to from : ℕ) → Copying w w to from 0
 copying-none w to from =
     record { same-length = refl; done = λ j l. absurd (omega arith); before = λ j l. refl; behind = λ j l. refl }
 
-pub copying-more : (w w′ : List ℕ) (to from i : ℕ) → 8 ≤ (to - from) + (from - to) → i < 8 → to + i < length w
+-- one more of `n`, which are to stand `n` words away or further
+pub copying-more : (w w′ : List ℕ) (to from n i : ℕ) → n ≤ (to - from) + (from - to) → i < n → to + i < length w
     → Copying w w′ to from i → Copying w (set w′ (to + i) (getD w′ (from + i) 0)) to from (i + 1)
-copying-more w w′ to from i apart h fits s =
+copying-more w w′ to from n i apart h fits s =
     record {
       same-length = length-set w′ (to + i) x ∙ s .same-length;
       done = λ j l. done j l (ℕ-discrete j i);

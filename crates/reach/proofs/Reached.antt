@@ -2,16 +2,14 @@
 use mathlib.Core.Path.{_≡_, ap, _∙_}
 use mathlib.Core.List.{List}
 use Prim.Native.Nat.{ℕ, _+_, _*_, _/_, _%_, _^_, _≤_, _<_}
-use native.Mathlib.Decide.{ℕ-discrete}
 use native.Mathlib.Omega.{arith}
-use lib.ListN.{length, getD, set}
-use lib.Seq.{getD-set-same, getD-set-other}
 use Rattle.paths.specs.Graph.{Graph, EndsBelow, Link}
 use Rattle.log.specs.Log.{graphOf, PassedLog}
 use Rattle.log.proofs.Laws.{links-below}
 use Rattle.bits.specs.Bits.{bit}
-use Rattle.bits.specs.Work.{linksAt, waysAt, matrixWords, Matrix, Outside, nextAt}
-use Rattle.bits.proofs.Frames.{outside-none, outside-more, outside-then, outside-wider, matrix-before}
+use Rattle.bits.specs.Work.{linksAt, waysAt, matrixWords, Matrix}
+use Rattle.bits.proofs.Rows.{Copying}
+use Rattle.bits.proofs.Frames.{outside-then, outside-wider, matrix-before}
 use Rattle.rising.specs.Rising.{NoWays, BitsRise, LinksRise, RisingReached}
 use Rattle.reach.specs.Reach.{NoneMarked, LinksMarked, LinksCopied, Closed, WaysReached, ReachedLog}
 
@@ -28,33 +26,12 @@ rising-reached w w′ n few rise r =
 
 -- ---- other links: copied and closed
 
--- After the first `i` words.
-pub record Copying (w w′ : List ℕ) (i : ℕ) : Type 0 where
-  pub outside : Outside waysAt nextAt w w′
-  pub at-most : i ≤ matrixWords
-  pub words : (j : ℕ) → j < i → getD w′ (waysAt + j) 0 ≡ getD w (linksAt + j) 0
-
-pub copying-start : (w : List ℕ) → Copying w w 0
-copying-start w = record { outside = outside-none waysAt nextAt w; at-most = omega arith; words = λ j h. absurd (omega arith) }
-
-pub copying-on : (w w′ : List ℕ) (i : ℕ) → i < matrixWords → nextAt ≤ length w → Copying w w′ i
-    → Copying w (set w′ (waysAt + i) (getD w′ (linksAt + i) 0)) (i + 1)
-copying-on w w′ i h fits s =
+pub copying-end : (w w′ : List ℕ) (i : ℕ) → i ≡ matrixWords → Copying w w′ waysAt linksAt i → LinksCopied w w′
+copying-end w w′ i h s =
     record {
-      outside = outside-more (waysAt + i) (getD w′ (linksAt + i) 0) (omega arith) (omega arith) (s .outside);
-      at-most = omega arith;
-      words = λ j l. words j l (ℕ-discrete j i);
+      outside = record { same-length = s .same-length; before = s .before; behind = λ j l. s .behind j (omega arith) };
+      words = λ j l. s .done j (omega arith);
     }
-  where
-    words : (j : ℕ) → j < i + 1 → Dec (j ≡ i) → getD (set w′ (waysAt + i) (getD w′ (linksAt + i) 0)) (waysAt + j) 0 ≡ getD w (linksAt + j) 0
-    words j l (yes e) =
-        rw e (getD-set-same w′ (waysAt + i) (getD w′ (linksAt + i) 0) 0 (omega (arith, s .outside .same-length))
-        ∙ s .outside .before (linksAt + i) (omega arith))
-    words j l (no ne) =
-        getD-set-other w′ (waysAt + i) (waysAt + j) (getD w′ (linksAt + i) 0) 0 (λ e. ne (omega arith)) ∙ s .words j (omega (arith, ne))
-
-pub copying-end : (w w′ : List ℕ) (i : ℕ) → matrixWords ≤ i → Copying w w′ i → LinksCopied w w′
-copying-end w w′ i h s = record { outside = s .outside; words = λ j l. s .words j (omega arith) }
 
 -- a copied matrix holds the same
 matrix-copied : {w w′ : List ℕ} {R : ℕ → ℕ → Type 0} → LinksCopied w w′ → Matrix linksAt w R → Matrix waysAt w′ R

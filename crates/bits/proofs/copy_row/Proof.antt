@@ -43,7 +43,7 @@ loop-again : tie.Need-loop-again Inv-loop μ-loop
 loop-again c =
     let s = c .before .before .before in
     let at = c .before .before .loop in
-    (omega arith, copying-more (s .args .w .now) (at .w) (s .args .to) (s .args .from) (at .k) (s .pre .2) (omega arith) (omega arith) (at .inv .1))
+    (omega arith, copying-more (s .args .w .now) (at .w) (s .args .to) (s .args .from) 8 (at .k) (s .pre .2) (omega arith) (omega arith) (at .inv .1))
 
 same-length : tie.Need-same-length Inv-loop μ-loop
 same-length c = omega arith

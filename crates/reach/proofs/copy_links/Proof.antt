@@ -1,20 +1,21 @@
 -- `reach::copy_links` meets its contract. The invariant: the first `i` words are copied.
 -- Assumes nothing.
-use Prim.Native.Nat.{_-_}
+use Prim.Native.Nat.{_-_, _≤_}
 use native.Mathlib.Omega.{arith}
-use Rattle.bits.specs.Work.{matrixWords}
-use Rattle.reach.proofs.Reached.{Copying, copying-start, copying-on, copying-end}
+use Rattle.bits.specs.Work.{linksAt, waysAt, matrixWords}
+use Rattle.bits.proofs.Rows.{Copying, copying-none, copying-more}
+use Rattle.reach.proofs.Reached.{copying-end}
 use Rattle.reach.proofs.copy_links.Statement.{statement}
 use Rattle.reach.proofs.copy_links.Tie as tie
 
 abbrev Inv-loop : tie.InvT-loop
-Inv-loop w₀ i₀ w i = Copying w₀ w i
+Inv-loop w₀ i₀ w i = (i ≤ matrixWords) × Copying w₀ w waysAt linksAt i
 
 abbrev μ-loop : tie.MeasureT-loop
 μ-loop w₀ i₀ w i = matrixWords - i
 
 loop-holds : tie.Need-loop-holds Inv-loop μ-loop
-loop-holds c = copying-start (c .args .w .now)
+loop-holds c = (omega arith, copying-none _ _ _)
 
 add-w : tie.Need-add-w Inv-loop μ-loop
 add-w c = omega arith
@@ -44,7 +45,7 @@ loop-again : tie.Need-loop-again Inv-loop μ-loop
 loop-again c =
     let s = c .before .before .before in
     let at = c .before .before .loop in
-    copying-on (s .args .w .now) (at .w) (at .i) (omega arith) (s .pre) (at .inv)
+    (omega arith, copying-more (s .args .w .now) (at .w) waysAt linksAt matrixWords (at .i) (omega arith) (omega arith) (omega arith) (at .inv .1))
 
 same-length : tie.Need-same-length Inv-loop μ-loop
 same-length c = omega arith
@@ -52,7 +53,7 @@ same-length c = omega arith
 returns : tie.Need-returns Inv-loop μ-loop
 returns c =
     let at = c .before .loop in
-    copying-end (c .before .before .args .w .now) (at .w) (at .i) (omega arith) (at .inv)
+    copying-end (c .before .before .args .w .now) (at .w) (at .i) (omega arith) (at .inv .1)
 
 pub copy-links-spec : {M : Type 1} → statement M
 copy-links-spec =
