@@ -1,4 +1,4 @@
--- Laws of bits in a list of words: after a word is stored, and of the first new bit.
+-- Laws of bits in a list of words: after a word is stored or copied, of the first bit, and of the first new one.
 use mathlib.Core.Path.{_≡_, refl, sym, ap, _∙_}
 use mathlib.Core.Logic.{_≢_}
 use mathlib.Core.List.{List}

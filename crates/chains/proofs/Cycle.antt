@@ -30,7 +30,7 @@ use Rattle.paths.proofs.Ways.{way-trans}
 use Rattle.paths.proofs.Numbers.{nodup-below}
 use Rattle.paths.proofs.Loops.{walk-way}
 use Rattle.searching.specs.Items.{Tables, SameChains, Matching, Spent, Dead, Shrunk}
-use Rattle.searching.specs.Cycles.{Selves, Walking}
+use Rattle.chains.specs.Cycles.{Selves, Walking}
 
 pub selves-matching : {m v : ℕ} {t : Tables} → Selves m t v → Matching m t
 selves-matching {m} {v} {t} s =

@@ -10,7 +10,8 @@ use Rattle.bits.specs.Bits.{RowCopied}
 use Rattle.bits.specs.Work.{nextAt, viaAt, seenAt, deadAt, noneAt, usedWords, Outside}
 use Rattle.bits.proofs.Frames.{outside-none, outside-then, outside-wider, bit-before}
 use Rattle.searching.specs.Items.{SameChains, Dead, Trail, Flipping, Flipped, Extended}
-use Rattle.searching.specs.State.{tables, deads, Pairs, Extendable, SearchedIn, FlippedIn, ExtendedIn}
+use Rattle.searching.specs.State.{tables, deads, Pairs, Extendable, SearchedIn, FlippedIn}
+use Rattle.chains.specs.Joined.{ExtendedIn}
 use Rattle.searching.proofs.Deads.{dead-moved, dead-skip, dead-kept}
 use Rattle.chains.proofs.Flips.{flip-on, flip-end}
 use Rattle.searching.proofs.Frames.{via-behind, queue-behind, dead-behind}

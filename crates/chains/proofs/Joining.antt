@@ -7,7 +7,8 @@ use native.Mathlib.Omega.{arith}
 use Rattle.bits.specs.Work.{nextAt, Outside, noneAt}
 use Rattle.bits.proofs.Frames.{outside-then, outside-wider}
 use Rattle.searching.specs.Items.{Dead}
-use Rattle.searching.specs.State.{tables, deads, Pairs, Sized, ForgottenIn, PairedIn, Extendable, ExtendedIn, Chained, JoinedIn}
+use Rattle.searching.specs.State.{tables, deads, Pairs, Sized, ForgottenIn, Extendable}
+use Rattle.chains.specs.Joined.{PairedIn, ExtendedIn, Chained, JoinedIn}
 use Rattle.searching.proofs.Deads.{dead-none, dead-moved, dead-exhausted}
 use Rattle.searching.proofs.Relations.{chains-none, exhausted-within}
 use Rattle.searching.proofs.Searches.{matching-same}

@@ -10,4 +10,5 @@ pub mod Reports
 pub mod Pairs
 pub mod Extending
 pub mod Joining
+pub mod Selves
 pub mod Looping

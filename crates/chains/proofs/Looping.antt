@@ -9,8 +9,9 @@ use Rattle.bits.specs.Work.{linksAt, nextAt, noneAt, usedWords, matrixWords, Ma
 use Rattle.bits.proofs.Frames.{outside-then, outside-wider}
 use Rattle.paths.specs.Graph.{Graph, EndsBelow, Link, Way}
 use Rattle.searching.specs.Items.{SameChains, Dead, Shrunk}
-use Rattle.searching.specs.Cycles.{Selves}
-use Rattle.searching.specs.State.{tables, deads, Pairs, Sized, ForgottenIn, SelvesIn, Extendable, ExtendedIn, LoopedIn}
+use Rattle.chains.specs.Cycles.{Selves}
+use Rattle.searching.specs.State.{tables, deads, Pairs, Sized, ForgottenIn, Extendable}
+use Rattle.chains.specs.Joined.{SelvesIn, ExtendedIn, LoopedIn}
 use Rattle.chains.proofs.Cycle.{selves-matching, no-way-back}
 use Rattle.searching.proofs.Deads.{dead-none, dead-moved}
 use Rattle.searching.proofs.Relations.{Within, chains-none, links-then, shrunk-within, shrunk-from}

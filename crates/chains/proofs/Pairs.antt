@@ -10,7 +10,8 @@ use Rattle.bits.specs.Bits.{BitSet, NextNew}
 use Rattle.bits.specs.Work.{nextAt, prevAt, viaAt, seenAt, Outside, noneAt}
 use Rattle.bits.proofs.Frames.{outside-none, outside-then, outside-wider, bit-behind}
 use Rattle.searching.specs.Items.{Tables, Pairing, Trail, Flipping, Flipped, Shrunk}
-use Rattle.searching.specs.State.{tables, Pairs, Sized, ForgottenIn, PutIn, PairedIn}
+use Rattle.searching.specs.State.{tables, Pairs, Sized, ForgottenIn, PutIn}
+use Rattle.chains.specs.Joined.{PairedIn}
 use Rattle.chains.proofs.Flips.{flip-end}
 use Rattle.searching.proofs.Frames.{next-before, prev-before}
 use Rattle.searching.proofs.Relations.{pairing-within}

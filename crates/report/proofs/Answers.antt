@@ -12,7 +12,8 @@ use Rattle.reach.specs.Reach.{FirstLoop}
 use Rattle.bits.proofs.Frames.{matrix-before}
 use Rattle.searching.specs.Items.{memberTest, members}
 use Rattle.chains.specs.Threads.{ThreadsOf}
-use Rattle.searching.specs.State.{tables, JoinedIn, LoopedIn}
+use Rattle.searching.specs.State.{tables}
+use Rattle.chains.specs.Joined.{JoinedIn, LoopedIn}
 use Rattle.paths.proofs.Passing.{passing-rising}
 use Rattle.searching.proofs.Relations.{exhausted-within}
 use Rattle.chains.proofs.Cycle.{loop-least}

@@ -8,7 +8,7 @@ use Rattle.paths.specs.Graph.{Graph, EndsBelow, Link, Way}
 use Rattle.bits.specs.Bits.{bit}
 use Rattle.bits.specs.Work.{linksAt, waysAt, Matrix, Outside, nextAt}
 
--- the words of the second, of the ways, are zero
+-- the words of the ways are zero
 abbrev pub NoWays : List ℕ → Type 0
 NoWays w = (i : ℕ) → waysAt ≤ i → i < nextAt → getD w i 0 ≡ 0
 

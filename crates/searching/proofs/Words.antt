@@ -1,17 +1,15 @@
--- The tables after words are stored: an item is seen, an item is put behind another, and items are put behind themselves.
-use mathlib.Core.Path.{_≡_, sym, _∙_}
+-- The tables after words are stored: an item is seen, and an item is put behind another.
+use mathlib.Core.Path.{_≡_, _∙_}
 use mathlib.Core.Logic.{_≢_}
 use mathlib.Core.List.{List}
 use Prim.Native.Nat.{ℕ, _+_, _-_, _/_, _≤_, _<_}
-use native.Mathlib.Decide.{ℕ-discrete}
 use native.Mathlib.Omega.{arith}
 use lib.ListN.{length, getD, set, length-set}
 use lib.Seq.{getD-set-same, getD-set-other}
 use Rattle.bits.specs.Bits.{bit, BitSet}
 use Rattle.bits.specs.Work.{nextAt, prevAt, viaAt, queueAt, seenAt, deadAt, usedWords, Outside}
-use Rattle.searching.specs.Items.{Flipped}
-use Rattle.searching.specs.State.{tables, PutIn, SawIn, SelvesIn}
-use Rattle.bits.proofs.Frames.{outside-none, outside-then, outside-set, outside-more, bit-stored}
+use Rattle.searching.specs.State.{PutIn, SawIn}
+use Rattle.bits.proofs.Frames.{outside-set, outside-more, bit-stored}
 
 -- ---- an item is seen
 
@@ -119,80 +117,3 @@ module _ (w : List ℕ) (a b : ℕ) (fits : usedWords ≤ length w) (from : a < 
 
       second : (i : ℕ) → i ≢ prevAt + b → getD pairWords i 0 ≡ getD (set w (nextAt + a) (b + 1)) i 0
       second i ne = getD-set-other (set w (nextAt + a) (b + 1)) (prevAt + b) i (a + 1) 0 ne
-
--- ---- items are put behind themselves
-
--- those before `a` stand behind themselves, but for `v`
-pub record Selving (m v : ℕ) (w₀ w : List ℕ) (a : ℕ) : Type 0 where
-  pub up-to : a ≤ m
-  pub outside : Outside nextAt viaAt w₀ w
-  pub next-end : tables w .next v ≡ 0
-  pub prev-end : tables w .prev v ≡ 0
-  pub next-self : (x : ℕ) → x < a → x ≢ v → tables w .next x ≡ x + 1
-  pub prev-self : (x : ℕ) → x < a → x ≢ v → tables w .prev x ≡ x + 1
-
-pub selving-none : (m v : ℕ) (w : List ℕ) → v < m → m < 256 → ((i : ℕ) → nextAt ≤ i → i < viaAt → getD w i 0 ≡ 0) → Selving m v w w 0
-selving-none m v w h k z =
-    record {
-      up-to = omega arith;
-      outside = outside-none nextAt viaAt w;
-      next-end = z (nextAt + v) (omega arith) (omega arith);
-      prev-end = z (prevAt + v) (omega arith) (omega arith);
-      next-self = λ x l ne. absurd (omega arith);
-      prev-self = λ x l ne. absurd (omega arith);
-    }
-
-module _ (m v : ℕ) (w₀ w : List ℕ) (a : ℕ) (few : m < 256) (below : v < m) (s : Selving m v w₀ w a) where
-  pub selving-skip : a < m → a ≡ v → Selving m v w₀ w (a + 1)
-  selving-skip h e =
-      record {
-        up-to = omega arith;
-        outside = s .outside;
-        next-end = s .next-end;
-        prev-end = s .prev-end;
-        next-self = λ x l ne. s .next-self x (earlier x l ne) ne;
-        prev-self = λ x l ne. s .prev-self x (earlier x l ne) ne;
-      }
-    where
-      earlier : (x : ℕ) → x < a + 1 → x ≢ v → x < a
-      earlier x l ne = go (ℕ-discrete x a)
-        where
-          go : Dec (x ≡ a) → x < a
-          go (yes f) = absurd (ne (f ∙ e))
-          go (no f) = omega arith
-
-  pub selving-more : (w′ : List ℕ) → PutIn w w′ a a → a < m → a ≢ v → Selving m v w₀ w′ (a + 1)
-  selving-more w′ put-in h ne =
-      record {
-        up-to = omega arith;
-        outside = outside-then (s .outside) (put-in .outside);
-        next-end = p .next-other v (omega arith) (λ e. ne (sym e)) ∙ s .next-end;
-        prev-end = p .prev-other v (omega arith) (λ e. ne (sym e)) ∙ s .prev-end;
-        next-self = λ x l away. next x l away (ℕ-discrete x a);
-        prev-self = λ x l away. prev x l away (ℕ-discrete x a);
-      }
-    where
-      p : Flipped 256 (tables w) (tables w′) a a
-      p = put-in .flipped
-
-      next : (x : ℕ) → x < a + 1 → x ≢ v → Dec (x ≡ a) → tables w′ .next x ≡ x + 1
-      next x l away (yes e) = rw e (p .next-here)
-      next x l away (no e) = p .next-other x (omega arith) e ∙ s .next-self x (omega arith) away
-
-      prev : (x : ℕ) → x < a + 1 → x ≢ v → Dec (x ≡ a) → tables w′ .prev x ≡ x + 1
-      prev x l away (yes e) = rw e (p .prev-here)
-      prev x l away (no e) = p .prev-other x (omega arith) e ∙ s .prev-self x (omega arith) away
-
-  pub selving-done : m ≤ a → SelvesIn w₀ w m v
-  selving-done h =
-      record {
-        outside = s .outside;
-        selves =
-            record {
-              below = below;
-              next-end = s .next-end;
-              prev-end = s .prev-end;
-              next-self = λ x l ne. s .next-self x (omega arith) ne;
-              prev-self = λ x l ne. s .prev-self x (omega arith) ne;
-            };
-      }

@@ -9,7 +9,7 @@ use Rattle.paths.specs.Graph.{Graph, Link}
 use Rattle.log.specs.Words.{word}
 use Rattle.bits.specs.Work.{nextAt}
 use Rattle.searching.specs.Items.{Shrunk}
-use Rattle.searching.specs.Cycles.{Selves, Walking}
+use Rattle.chains.specs.Cycles.{Selves, Walking}
 use Rattle.searching.specs.State.{tables}
 use Rattle.chains.proofs.Cycle.{shrunk-next, walk-start, walk-on, walk-short, walk-end}
 use Rattle.writing.specs.Layout.{BeginsWith, loopWords}

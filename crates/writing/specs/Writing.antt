@@ -9,7 +9,7 @@ use Rattle.log.specs.Words.{word}
 use Rattle.bits.specs.Bits.{bit}
 use Rattle.bits.specs.Work.{linksAt, waysAt, noneAt, usedWords, Matrix}
 use Rattle.searching.specs.Items.{Tables, Matching, Steps, Exhausted, Shrunk, members}
-use Rattle.searching.specs.Cycles.{Selves}
+use Rattle.chains.specs.Cycles.{Selves}
 use Rattle.chains.specs.Threads.{ThreadOf, ThreadsOf}
 use Rattle.searching.specs.State.{tables}
 use Rattle.writing.specs.Layout.{threadWords, threadsWords, reportWords, loopWords, BeginsWith}

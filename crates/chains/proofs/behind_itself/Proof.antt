@@ -3,7 +3,7 @@
 use mathlib.Core.Logic.{⊎-elim}
 use Prim.Native.Nat.{_-_}
 use native.Mathlib.Omega.{arith}
-use Rattle.searching.proofs.Words.{Selving, selving-none, selving-skip, selving-more, selving-done}
+use Rattle.chains.proofs.Selves.{Selving, selving-none, selving-skip, selving-more, selving-done}
 use Rattle.chains.proofs.behind_itself.Statement.{statement}
 use Rattle.chains.proofs.behind_itself.Tie as tie
 

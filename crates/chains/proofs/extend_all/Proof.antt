@@ -3,7 +3,7 @@
 use mathlib.Core.List.{List}
 use Prim.Native.Nat.{ℕ, _-_}
 use native.Mathlib.Omega.{arith}
-use Rattle.searching.specs.State.{Chained}
+use Rattle.chains.specs.Joined.{Chained}
 use Rattle.chains.proofs.Joining.{Joining, joining-start, joining-more, joining-end}
 use Rattle.chains.proofs.extend_all.Statement.{statement}
 use Rattle.chains.proofs.extend_all.Tie as tie

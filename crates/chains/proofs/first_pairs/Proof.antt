@@ -2,7 +2,8 @@
 -- Assumes nothing.
 use Prim.Native.Nat.{_+_, _-_, _≤_}
 use native.Mathlib.Omega.{arith}
-use Rattle.searching.specs.State.{Sized, PairedIn}
+use Rattle.searching.specs.State.{Sized}
+use Rattle.chains.specs.Joined.{PairedIn}
 use Rattle.chains.proofs.Pairs.{pairs-start, pair-asked, paired-from, pairs-done}
 use Rattle.searching.proofs.Showing.{sized-kept}
 use Rattle.chains.proofs.first_pairs.Statement.{statement}
