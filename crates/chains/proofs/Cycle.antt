@@ -19,7 +19,7 @@ use mathlib.Core.List.{
   List·Nodup,
   Pairwise·nil,
 }
-use Prim.Native.Nat.{ℕ, _+_, _≤_, _<_}
+use Prim.Native.Nat.{ℕ, zero, suc, _+_, _-_, _≤_, _<_}
 use native.Mathlib.Decide.{ℕ-discrete, decLt}
 use native.Mathlib.Omega.{arith}
 use lib.ListN.{length, length-append}
@@ -212,6 +212,24 @@ module _ {g : Graph} {t t′ : Tables} {v : ℕ} (s : Selves (g .n) t v) (k : Sh
               let f = s .next-self x (w .next-episode) ne in
               let j : y ≡ x = omega arith in
               absurd (new (λ i. ne (omega arith)) (Memᴰ·append-right c (here j)))
+
+  -- the walk goes on until it is back at `v`, so what is written is a part of a loop
+  pub walk-closes : (j : ℕ) {c : List ℕ} {x : ℕ} → g .n < length c + j → Walking g t′ v c x
+      → (whole : List ℕ) × Loop g whole × (length c ≤ length whole)
+  walk-closes zero {c} {x} most w = absurd (past (ℕ-discrete x v))
+    where
+      past : Dec (x ≡ v) → ⊥
+      past (yes e) = let h : length c ≤ g .n = nodup-below (g .n) c (w .once) (w .episodes) in omega arith
+      past (no ne) = let h = walk-short w ne in omega arith
+  walk-closes (suc j) {c} {x} most w = go (ℕ-discrete x v) (λ y. walk-closes j {c = c ++ x ∷ []} {x = y} (omega (arith, length-append c (x ∷ []))))
+    where
+      go : Dec (x ≡ v) → ((y : ℕ) → Walking g t′ v (c ++ x ∷ []) y → (whole : List ℕ) × Loop g whole × (length (c ++ x ∷ []) ≤ length whole))
+          → (whole : List ℕ) × Loop g whole × (length c ≤ length whole)
+      go (yes e) rest = (c, walk-end (subst (λ (u : ℕ). Walking g t′ v c u) e w) .0, omega arith)
+      go (no ne) rest =
+          let some : 0 < t′ .next x = shrunk-next s k x (w .next-episode) in
+          let (whole, loop, le) = rest (t′ .next x - 1) (walk-on w ne (omega arith)) in
+          (whole, loop, omega (arith, length-append c (x ∷ [])))
 
 module _ {g : Graph} where
   -- from each episode of a walk there is a way to its end

@@ -9,5 +9,6 @@ pub mod Furthest
 pub mod Fits
 pub mod Loops
 pub mod Same
+pub mod Trimming
 pub mod Checker
 pub mod Worked

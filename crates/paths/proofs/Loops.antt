@@ -7,6 +7,7 @@ use mathlib.Core.List.{
   [],
   _∷_,
   _++_,
+  map,
   List·Memᴰ as Mem,
   List·Memᴰ·head as here,
   List·Memᴰ·tail as there,
@@ -14,14 +15,16 @@ use mathlib.Core.List.{
   List·Memᴰ·cases-cons as mem-cases,
   Memᴰ·cast,
   Memᴰ·append-right,
+  Memᴰ·map,
   List·Nodup,
   Pairwise·nil,
 }
-use Prim.Native.Nat.{ℕ, zero, suc, _<_}
+use Prim.Native.Nat.{ℕ, zero, suc, _≤_, _<_}
 use native.Mathlib.Decide.{ℕ-discrete}
 use native.Mathlib.Omega.{arith}
+use lib.ListN.{length, length-map}
 use Rattle.order.specs.Order.{All, Chain, single, more}
-use Rattle.order.proofs.Lists.{all-nil, all-cons, decMem, nodup-cons, nodup-head, nodup-tail}
+use Rattle.order.proofs.Lists.{all-nil, all-cons, decMem, nodup-cons, nodup-head, nodup-tail, nodup-le}
 use Rattle.paths.specs.Graph.{Graph, Episode, Link, EndsBelow, Way, one, step, Acyclic, Loop}
 use Rattle.paths.proofs.Ways.{way-first, decWay}
 
@@ -59,6 +62,11 @@ before {A} {R} {a} {x} (more {b = b} {l = t} r c) m = go (before c) (mem-cases m
               new = λ p o. ⊎-elim (λ e. nodup-head p (Memᴰ·cast (sym e) n)) (q .new (nodup-tail p)) (mem-cases o);
             }
 
+-- each element of a walk but its last has one behind it
+chain-next : {A : Type 0} {R : A → A → Type 0} (a : A) (p : List A) (x : A) → Chain R (a ∷ p ++ x ∷ []) → All (λ v. (y : A) × R v y) (a ∷ p)
+chain-next a [] x (more r c) = all-cons (x, r) (all-nil _)
+chain-next a (b ∷ p) x (more r c) = all-cons (b, r) (chain-next b p x c)
+
 module _ {g : Graph} where
   -- a walk leads from its first episode to its last
   pub walk-way : (a : ℕ) (p : List ℕ) (x : ℕ) → Chain (Link g) (a ∷ p ++ x ∷ []) → Way g a x
@@ -75,11 +83,21 @@ module _ {g : Graph} where
       walk-way (o .first) (o .others) (o .first)
       (subst (λ (l : List ℕ). Chain (Link g) (l ++ o .first ∷ [])) (o .parts) (o .closed))
 
+  -- different episodes have different links, so a loop has at most as many episodes as there are links
+  pub loop-few : {c : List ℕ} → Loop g c → length c ≤ length (g .links)
+  loop-few {c} o =
+      let from : ℕ × ℕ → ℕ = λ l. l .0 in
+      let le : length c ≤ length (map from (g .links)) =
+      nodup-le ℕ-discrete c (map from (g .links)) (o .once) (λ v m. Memᴰ·map from (links v (rw (o .parts) at m) .1)) in
+      omega (arith, length-map (g .links) from)
+    where
+      links : All (λ v. (y : ℕ) × Link g v y) (o .first ∷ o .others)
+      links = chain-next (o .first) (o .others) (o .first) (rw (o .parts) at (o .closed))
+
   module _ (ends : EndsBelow g) where
     -- what a link leaves is an episode
     walk-episodes : (a : ℕ) (p : List ℕ) (x : ℕ) → Chain (Link g) (a ∷ p ++ x ∷ []) → All (Episode g) (a ∷ p)
-    walk-episodes a [] x (more l c) = all-cons (ends a x l .0) (all-nil _)
-    walk-episodes a (b ∷ p) x (more l c) = all-cons (ends a b l .0) (walk-episodes b p x c)
+    walk-episodes a p x c v m = let (y, l) = chain-next a p x c v m in ends v y l .0
 
     -- the episodes of a walk are all different, or some of them are a loop
     walk-loop : {l : List ℕ} → Chain (Link g) l → List·Nodup l ⊎ ((c : List ℕ) × Loop g c)

@@ -44,6 +44,11 @@ lt-below {v} (suc n) h = go (lt-below n) (ℕ-discrete v n)
     go rest (yes e) = here e
     go rest (no ne) = there (rest (omega arith))
 
+pub below-nodup : (n : ℕ) → List·Nodup (below n)
+unfolding below
+below-nodup zero = Pairwise·nil
+below-nodup (suc n) = nodup-cons (λ m. let h = below-lt n n m in omega arith) (below-nodup n)
+
 pub length-below : (n : ℕ) → length (below n) ≡ n
 unfolding below
 length-below zero = refl

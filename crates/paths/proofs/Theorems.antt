@@ -1,5 +1,5 @@
 -- What is proved of graphs, each statement in full; the proofs are in the modules that are named. The definitions are those of
--- specs/Graph.antt and, in the crate `order`, of specs/Order.antt.
+-- specs/Graph.antt, specs/Trimmed.antt and, in the crate `order`, of specs/Order.antt.
 use mathlib.Core.Path.{_≡_, refl, sym, _∙_}
 use mathlib.Core.Logic.{_⊎_, _↔_}
 use mathlib.Core.List.{List, _∷_, List·Memᴰ as Mem, List·Nodup}
@@ -11,6 +11,7 @@ use Rattle.order.proofs.Dilworth as Order-dilworth
 use Rattle.paths.specs.Graph.{
   Graph,
   Episode,
+  Link,
   EndsBelow,
   SameLinks,
   Way,
@@ -26,6 +27,7 @@ use Rattle.paths.specs.Graph.{
   Loop,
   totalSteps,
 }
+use Rattle.paths.specs.Trimmed.{SameWays, Stays, Trimmed}
 use Rattle.paths.proofs.Ways as Ways
 use Rattle.paths.proofs.Threads as Threads
 use Rattle.paths.proofs.Numbers as Numbers
@@ -34,6 +36,7 @@ use Rattle.paths.proofs.Furthest as Furthest-one
 use Rattle.paths.proofs.Fits as Fits
 use Rattle.paths.proofs.Loops as Loops
 use Rattle.paths.proofs.Same as Same
+use Rattle.paths.proofs.Trimming as Trimming
 
 -- 1. Weak duality: an apart set has at most as many members as any cover has threads, in a graph with loops too.
 pub weak-duality : {g : Graph} (ts : List (List ℕ)) (s : List ℕ) → Cover g ts → Apart g s → length s ≤ length ts
@@ -126,6 +129,10 @@ way-to-loop g ends = Loops.way-loop ends
 pub loop-to-way : {g : Graph} {c : List ℕ} (o : Loop g c) → Way g (o .first) (o .first)
 loop-to-way = Loops.loop-way
 
+-- Different episodes have different links, so a loop has at most as many episodes as there are links.
+pub loop-few : {g : Graph} {c : List ℕ} → Loop g c → length c ≤ length (g .links)
+loop-few = Loops.loop-few
+
 -- Every graph is acyclic or has a loop.
 pub acyclic-or-loop : (g : Graph) → EndsBelow g → Acyclic g ⊎ ((c : List ℕ) × Loop g c)
 acyclic-or-loop g = Loops.acyclic-or-loop
@@ -148,3 +155,38 @@ same-furthest = Same.same-furthest
 
 pub same-loops : {g h : Graph} → SameLinks g h → (c : List ℕ) → Loop g c ↔ Loop h c
 same-loops = Same.same-loops
+
+-- A graph with the same episodes and all links of another, and perhaps more, has its covers.
+pub more-cover : {g h : Graph} → g .n ≡ h .n → ((a b : ℕ) → Link g a b → Link h a b) → (ts : List (List ℕ)) → Cover g ts → Cover h ts
+more-cover episodes link ts = Same.more-cover episodes link
+
+-- 10. Graphs with the same episodes and the same ways have the same apart sets and furthest sets, and acyclic ones the same width.
+pub ways-apart : {g h : Graph} → SameWays g h → (s : List ℕ) → Apart g s ↔ Apart h s
+ways-apart = Same.ways-apart
+
+pub ways-furthest : {g h : Graph} → SameWays g h → (s : List ℕ) → Furthest g s ↔ Furthest h s
+ways-furthest = Same.ways-furthest
+
+pub ways-width : {g h : Graph} → EndsBelow g → EndsBelow h → Acyclic g → SameWays g h → (k : ℕ) → Width g k ↔ Width h k
+ways-width = Trimming.ways-width
+
+-- 11. Trimming. A link stays exactly when no episode lies between its ends: none to which the first has a way and which has a way to the
+-- last. Whether it stays can be decided.
+pub stays-exactly : {g : Graph} → EndsBelow g → (a b : ℕ)
+    → Stays g a b ↔ (Link g a b × ((c : ℕ) → Way g a c → Way g c b → ⊥))
+stays-exactly ends a b = Trimming.stays-exactly ends
+
+pub stays-decidable : (g : Graph) (a b : ℕ) → Dec (Stays g a b)
+stays-decidable = Trimming.decStays
+
+-- The links that stay of an acyclic graph have the same ways as all links.
+pub trimmed-ways : {g h : Graph} → EndsBelow g → Acyclic g → Trimmed g h → SameWays g h
+trimmed-ways = Trimming.trimmed-ways
+
+-- They are the least: every graph with the same ways has each of them.
+pub trimmed-least : {g h : Graph} → EndsBelow g → SameWays g h → (a b : ℕ) → Stays g a b → Link h a b
+trimmed-least ends same a b = Trimming.stays-link ends same
+
+-- So graphs with the same ways, trimmed, have the same links.
+pub ways-trimmed : {g h g′ h′ : Graph} → EndsBelow g → EndsBelow h → SameWays g h → Trimmed g g′ → Trimmed h h′ → SameLinks g′ h′
+ways-trimmed = Trimming.ways-trimmed

@@ -1,9 +1,11 @@
 -- From the links and ways in the work words to a loop or a report.
-use mathlib.Core.Path.{_≡_, sym, subst}
+use mathlib.Core.Path.{_≡_, refl, sym, ap, subst}
 use mathlib.Core.List.{List}
 use Prim.Native.Nat.{ℕ, _+_, _*_, _≤_, _<_}
 use native.Mathlib.Omega.{arith}
-use Rattle.paths.specs.Graph.{Graph, Way, Acyclic}
+use lib.ListN.{length}
+use Rattle.paths.specs.Graph.{Graph, Way, Acyclic, Loop}
+use Rattle.paths.proofs.Theorems.{different-below}
 use Rattle.paths.proofs.Ways.{way-first}
 use Rattle.bits.specs.Bits.{bit}
 use Rattle.bits.specs.Work.{waysAt, seenAt}
@@ -18,9 +20,10 @@ use Rattle.paths.proofs.Passing.{passing-rising}
 use Rattle.searching.proofs.Relations.{exhausted-within}
 use Rattle.chains.proofs.Cycle.{loop-least}
 use Rattle.chains.proofs.Reports as reports
+use Rattle.writing.specs.Layout.{reportNeed}
 use Rattle.writing.specs.Writing.{Solved, ReportWritten, Looping, LoopWritten}
-use Rattle.report.specs.Report.{Reported, ShowsLoop, ShowsReport}
-use Rattle.report.specs.Solving.{Ready}
+use Rattle.report.specs.Report.{Reported, ShowsReport}
+use Rattle.report.specs.Solving.{Ready, LoopSought}
 
 -- what is proved of the chains, as a report
 reported-here : {g : Graph} {w : List ℕ} → Solved g (g .n) w → (ts : List (List ℕ)) → ThreadsOf g (tables w .next) (members (tables w) (g .n)) ts
@@ -74,19 +77,38 @@ module _ {g : Graph} {n v : ℕ} {w : List ℕ} (ready : Ready g n w) (first : F
           shrunk = shrunk;
         }
 
-    pub loop-answered : {o o′ : List ℕ} {r : ℕ} → LoopWritten w′ o o′ v r → ShowsLoop g r o o′
-    loop-answered d =
-        let (l, starts) = d .of g n looping in (
-          d .loop,
-          record { loop = l; smallest-first = rw starts (loop-least none-before l) },
-          sym (d .size),
-          d .words,
-        )
+    -- a loop is found, and it has an episode
+    pub loop-sought : {o o′ w″ : List ℕ} {r : ℕ} → LoopWritten w′ o o′ v r → LoopSought g o w o′ w″ r
+    loop-sought d =
+        let (l, starts) = d .of g n looping in
+        record {
+          none = λ e. absurd (omega (arith, d .size, ap length (l .parts)));
+          shown = λ ne. (
+            d .loop,
+            record { loop = l; smallest-first = rw starts (loop-least none-before l) },
+            sym (d .size),
+            d .words,
+          );
+        }
 
-  acyclic : n ≤ v → Acyclic g
-  acyclic none u way = none-before u (let h : u < g .n = way-first (ready .ends) way in omega (arith, ready .count)) way
+  -- none is found, and there is none
+  pub none-sought : {o : List ℕ} → v ≡ n → LoopSought g o w o w 0
+  none-sought e =
+      record {
+        none = λ f. (
+          λ u way. none-before u (let h : u < g .n = way-first (ready .ends) way in omega (arith, ready .count)) way,
+          refl,
+          refl,
+        );
+        shown = λ ne. absurd (ne refl);
+      }
 
-  module _ {w′ : List ℕ} (none : n ≤ v) (joined : JoinedIn w w′ waysAt n) where
+-- every loop fits the words of a report
+pub loop-room : {g : Graph} {n k : ℕ} {w : List ℕ} → Ready g n w → reportNeed n ≤ k → (c : List ℕ) → Loop g c → length c + 1 ≤ k
+loop-room {g} ready room c loop = omega (arith, different-below (g .n) c (loop .once) (loop .episodes), ready .count)
+
+module _ {g : Graph} {n : ℕ} {w : List ℕ} (ready : Ready g n w) (acyclic : Acyclic g) where
+  module _ {w′ : List ℕ} (joined : JoinedIn w w′ waysAt n) where
     pub solved : Solved g n w′
     solved =
         let few : n < 256 = ready .few in
@@ -95,7 +117,7 @@ module _ {g : Graph} {n v : ℕ} {w : List ℕ} (ready : Ready g n w) (first : F
           few = ready .few;
           long = rw (joined .outside .same-length) (ready .long);
           ends = ready .ends;
-          acyclic = acyclic none;
+          acyclic = acyclic;
           links = matrix-before (omega arith) (joined .outside) (ready .links);
           ways = matrix-before (omega arith) (joined .outside) (ready .ways);
           none = λ i lo hi. let e = joined .outside .behind i (omega arith) in let z = ready .empty i (omega arith) (omega arith) in omega arith;

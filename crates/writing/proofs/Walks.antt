@@ -5,13 +5,13 @@ use mathlib.Core.List.{List, [], _∷_, _++_, map}
 use Prim.Native.Nat.{ℕ, _+_, _-_, _≤_, _<_}
 use native.Mathlib.Omega.{arith}
 use lib.ListN.{length, getD, set, length-append, length-map, length-set}
-use Rattle.paths.specs.Graph.{Graph, Link}
+use Rattle.paths.specs.Graph.{Graph, Link, Loop}
 use Rattle.log.specs.Words.{word}
 use Rattle.bits.specs.Work.{nextAt}
 use Rattle.searching.specs.Items.{Shrunk}
 use Rattle.chains.specs.Cycles.{Selves, Walking}
 use Rattle.searching.specs.State.{tables}
-use Rattle.chains.proofs.Cycle.{shrunk-next, walk-start, walk-on, walk-short, walk-end}
+use Rattle.chains.proofs.Cycle.{shrunk-next, walk-start, walk-on, walk-short, walk-end, walk-closes}
 use Rattle.writing.specs.Layout.{BeginsWith, loopWords}
 use Rattle.writing.specs.Writing.{Looping, LoopWritten}
 use Rattle.writing.proofs.Buffers.{begins-second, begins-over, begins-first, begins-word}
@@ -24,7 +24,7 @@ pub record Written (w o o′ : List ℕ) (v count x : ℕ) : Type 0 where
   pub below : x < n
   pub some : 1 ≤ count
   pub few : count ≤ n
-  pub long : n + 1 ≤ length o′
+  pub room : (c : List ℕ) → Loop g c → length c + 1 ≤ length o′
   pub same-length : length o′ ≡ length o
   pub first : ℕ
   pub loop : List ℕ
@@ -39,11 +39,22 @@ shrunk-of : {g : Graph} {n v : ℕ} {w : List ℕ} (l : Looping g n v w) → Shr
 shrunk-of {g} {w = w} l = subst (λ (m : ℕ). Shrunk m (Link g) (l .selves) (tables w)) (sym (l .count)) (l .shrunk)
 
 module _ {g : Graph} {n v : ℕ} {w : List ℕ} (l : Looping g n v w) where
+  -- what a walk has written is a part of a loop
+  closes : {c : List ℕ} {x : ℕ} → Walking g (tables w) v c x → (whole : List ℕ) × Loop g whole × (length c ≤ length whole)
+  closes = walk-closes (selves-of l) (shrunk-of l) (g .n + 1) (omega arith)
+
   -- each episode has one behind it
   pub loop-next : (x : ℕ) → x < n → (0 < getD w (nextAt + x) 0) × (getD w (nextAt + x) 0 ≤ n)
   loop-next x h = (shrunk-next (l .selves-are) (l .shrunk) x h, l .shrunk .matching .next-le x h)
 
-  pub walk-first : (o : List ℕ) → n + 1 ≤ length o
+  first-walk : Walking g (tables w) v (v ∷ []) (getD w (nextAt + v) 0 - 1)
+  first-walk = let p = loop-next v (l .selves-are .below) in walk-start (selves-of l) (shrunk-of l) (omega arith)
+
+  -- where every loop fits, there is room for one episode
+  pub loop-room : (k : ℕ) → ((c : List ℕ) → Loop g c → length c + 1 ≤ k) → 2 ≤ k
+  loop-room k room = let (whole, loop, le) = closes first-walk in omega (arith, room whole loop)
+
+  pub walk-first : (o : List ℕ) → ((c : List ℕ) → Loop g c → length c + 1 ≤ length o)
       → Written w (set o 1 (word 7 v)) (set o 1 (word 7 v)) v 1 (getD w (nextAt + v) 0 - 1)
   walk-first o h =
       let p = loop-next v (l .selves-are .below) in
@@ -54,12 +65,12 @@ module _ {g : Graph} {n v : ℕ} {w : List ℕ} (l : Looping g n v w) where
         below = omega arith;
         some = omega arith;
         few = omega arith;
-        long = let e = length-set o 1 (word 7 v) in omega arith;
+        room = λ c k. rw (length-set o 1 (word 7 v)) (h c k);
         same-length = refl;
         first = getD o 0 0;
         loop = v ∷ [];
         size = refl;
-        words = begins-second (word 7 v) o (omega arith);
+        words = begins-second (word 7 v) o (omega (arith, loop-room (length o) h));
         walk = λ g n k. walk-start (selves-of k) (shrunk-of k) (omega arith);
       }
 
@@ -67,10 +78,21 @@ module _ {w o o′ : List ℕ} {v count x : ℕ} (s : Written w o o′ v count x
   pub walk-room : x ≢ v → count < s .n
   walk-room ne = let h = walk-short (s .walk (s .g) (s .n) (s .looping)) ne in omega arith
 
+  -- the next episode has room in the buffer, since the loop has
+  pub walk-fits : x ≢ v → count + 1 < length o′
+  walk-fits ne =
+      let l = s .looping in
+      let p = loop-next l x (s .below) in
+      let on : Walking (s .g) (tables w) v (s .loop ++ x ∷ []) (getD w (nextAt + x) 0 - 1) =
+      walk-on (selves-of l) (shrunk-of l) (s .walk (s .g) (s .n) l) ne (omega arith) in
+      let (whole, loop, le) = closes l on in
+      omega (arith, s .room whole loop, length-append (s .loop) (x ∷ []))
+
   pub walk-more : x ≢ v → Written w o (set o′ (count + 1) (word 7 x)) v (count + 1) (getD w (nextAt + x) 0 - 1)
   walk-more ne =
       let e = length-set o′ (count + 1) (word 7 x) in
       let r = walk-room ne in
+      let f = walk-fits ne in
       let p = loop-next (s .looping) x (s .below) in
       record {
         g = s .g;
@@ -79,7 +101,7 @@ module _ {w o o′ : List ℕ} {v count x : ℕ} (s : Written w o o′ v count x
         below = omega arith;
         some = omega arith;
         few = omega arith;
-        long = omega arith;
+        room = λ c o. rw e (s .room c o);
         same-length = omega arith;
         first = s .first;
         loop = s .loop ++ x ∷ [];

@@ -3,7 +3,7 @@ ghost use mathlib.Core.Path.{_≡_};
 ghost use mathlib.Core.List.{List};
 ghost use Prim.Native.Nat.{ℕ, _+_, _*_, _-_, _<_, _≤_};
 ghost use lib.ListN.{length};
-ghost use Rattle.paths.specs.Graph.{Graph, Thread};
+ghost use Rattle.paths.specs.Graph.{Graph, Thread, Loop};
 ghost use Rattle.bits.specs.Bits.{bit};
 ghost use Rattle.bits.specs.Work.{waysAt, usedWords};
 ghost use Rattle.searching.specs.Items.{Matching, memberTest, members};
@@ -152,7 +152,7 @@ pub fn write_report(w: &[u32], n: usize, out: &mut [u32]) -> usize
 
 // Writes the loop from `v` on, and gives its length.
 pub fn write_loop(w: &[u32], v: usize, out: &mut [u32]) -> usize
-    requires { ⌜ ((g : Graph) × (n : ℕ) × Looping g n v (now w) × (n + 1 ≤ length (now out))) ⌝ }
+    requires { ⌜ ((g : Graph) × (n : ℕ) × Looping g n v (now w) × ((c : List ℕ) → Loop g c → length c + 1 ≤ length (now out))) ⌝ }
     ensures { λ r. ⌜ LoopWritten (now (w .entry)) (now (out .entry)) (now (out .exit)) v r ⌝ }
 {
     let mut count = 1;

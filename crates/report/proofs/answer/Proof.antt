@@ -1,29 +1,33 @@
--- `report::answer` meets its contract: where an episode has a way to itself a loop is found and written, and else the chains are joined
--- and written as a report. Assumes nothing.
+-- `report::answer` meets its contract: where a loop is shown it is the answer, and else the chains are joined and written as a report.
+-- Assumes nothing.
 use borrow.Author.Needs.{needs}
+use mathlib.Core.Path.{_≡_, sym, ap, subst}
+use mathlib.Core.List.{List}
+use Prim.Native.Nat.{ℕ}
 use native.Mathlib.Omega.{arith}
-use Rattle.report.proofs.Answers.{looping, loop-answered, solved, report-answered}
+use lib.ListN.{length}
+use Rattle.paths.specs.Graph.{Graph}
+use Rattle.report.specs.Report.{ShowsReport}
+use Rattle.report.specs.Solving.{Ready}
+use Rattle.report.proofs.Answers.{loop-room, solved, report-answered}
 use Rattle.report.proofs.answer.Statement.{statement}
 use Rattle.report.proofs.answer.Tie as tie
 
 -- the entry, from the place where it is known whether there is a loop
-abbrev start : tie.After-first-loop → tie.Start
-start c = c .before .before .before .before
+abbrev start : tie.After-show-loop → tie.Start
+start c = c .before .before .before .before .before
 
-first-loop-requires : tie.Need-first-loop-requires
-first-loop-requires c κs = search needs
+-- where there is none, the work words are as before
+same-words : (c : tie.After-show-loop) (g : Graph) → Ready g (start c .args .n) (start c .args .w .now) → c .show-loop .result ≡ 0
+    → Ready g (start c .args .n) (c .show-loop .last .1 .1 .0)
+same-words c g ready none =
+    subst (λ (x : List ℕ). Ready g (start c .args .n) x) (sym (c .show-loop .ensures g ready .none none .2)) ready
 
-find-loop-requires : tie.Need-find-loop-requires
-find-loop-requires c κs =
-    let ready = start (c .before .before) .pre .0 .1 in
-    (ready .long, ready .few, omega arith, λ i lo hi. ready .empty i lo (omega arith))
-
-write-loop-requires : tie.Need-write-loop-requires
-write-loop-requires c κs =
-    let found = c .before .before .before .before in
-    let at = found .before .before .before in
-    let (g, ready) = start at .pre .0 in
-    (g, start at .args .n, looping ready (at .first-loop .ensures) (omega arith) (found .find-loop .ensures), omega arith)
+show-loop-requires : tie.Need-show-loop-requires
+show-loop-requires c κs =
+    let s = c .before .before .before .before in
+    let (g, ready) = s .pre .0 in
+    (g, ready, loop-room ready (s .pre .1))
 
 same-length : tie.Need-same-length
 same-length c = search needs
@@ -32,23 +36,22 @@ same-length-2 : tie.Need-same-length-2
 same-length-2 c = search needs
 
 returns : tie.Need-returns
-returns c = λ g ready.
-    let written = c .before .before in
-    let found = written .before .before .before .before .before in
-    let at = found .before .before .before in
-    loop-answered ready (at .first-loop .ensures) (omega arith) (found .find-loop .ensures) (written .write-loop .ensures)
+returns c = λ g ready. c .before .before .before .before .before .show-loop .ensures g ready .shown (λ e. omega arith)
 
 join-requires : tie.Need-join-requires
 join-requires c κs =
-    let ready = start (c .before .before) .pre .0 .1 in
+    let at = c .before .before .before .before .before .before in
+    let (g, before) = start at .pre .0 in
+    let ready = same-words at g before (omega arith) in
     (record { long = ready .long; matrix = omega arith; items = ready .few }, λ i lo hi. ready .empty i lo (omega arith))
 
 write-report-requires : tie.Need-write-report-requires
 write-report-requires c κs =
     let joined = c .before .before .before .before in
-    let at = joined .before .before .before in
-    let (g, ready) = start at .pre .0 in
-    ((g, solved ready (at .first-loop .ensures) (omega arith) (joined .join .ensures)), start at .pre .1)
+    let at = joined .before .before .before .before .before .before .before in
+    let (g, before) = start at .pre .0 in
+    let none = at .show-loop .ensures g before .none (omega arith) in
+    ((g, solved (same-words at g before (omega arith)) (none .0) (joined .join .ensures)), omega (arith, ap length (none .1), start at .pre .1))
 
 same-length-3 : tie.Need-same-length-3
 same-length-3 c = search needs
@@ -57,19 +60,19 @@ same-length-4 : tie.Need-same-length-4
 same-length-4 c = search needs
 
 returns-2 : tie.Need-returns-2
-returns-2 c = λ g ready.
+returns-2 c = λ g before.
     let written = c .before .before in
     let joined = written .before .before .before .before .before in
-    let at = joined .before .before .before in
-    report-answered ready (at .first-loop .ensures) (omega arith) (joined .join .ensures) (written .write-report .ensures)
+    let at = joined .before .before .before .before .before .before .before in
+    let none = at .show-loop .ensures g before .none (omega arith) in
+    subst (λ (o : List ℕ). ShowsReport g (written .write-report .result) o (written .write-report .last .1 .1 .0)) (none .1)
+    (report-answered (same-words at g before (omega arith)) (none .0) (joined .join .ensures) (written .write-report .ensures))
 
 pub answer-spec : {M : Type 1} → statement M
 answer-spec =
     tie.close
     (tie.spec
-    first-loop-requires
-    find-loop-requires
-    write-loop-requires
+    show-loop-requires
     same-length
     same-length-2
     returns

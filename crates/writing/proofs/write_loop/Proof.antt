@@ -5,7 +5,7 @@ use mir.Facts.{fits-widen}
 use Prim.Native.Nat.{_+_, _-_}
 use native.Mathlib.Omega.{arith}
 use lib.ListN.{length-set}
-use Rattle.writing.proofs.Walks.{Written, loop-next, walk-first, walk-room, walk-more, walk-done}
+use Rattle.writing.proofs.Walks.{Written, loop-next, loop-room, walk-first, walk-room, walk-fits, walk-more, walk-done}
 use Rattle.writing.proofs.write_loop.Statement.{statement}
 use Rattle.writing.proofs.write_loop.Tie as tie
 
@@ -22,7 +22,7 @@ add-out : tie.Need-add-out Inv-loop μ-loop
 add-out c = omega arith
 
 slice-write-out : tie.Need-slice-write-out Inv-loop μ-loop
-slice-write-out c = omega arith
+slice-write-out c = omega (arith, loop-room (c .pre .2) _ (c .pre .3))
 
 add-x : tie.Need-add-x Inv-loop μ-loop
 add-x c = omega arith
@@ -57,7 +57,7 @@ mul-out : tie.Need-mul-out Inv-loop μ-loop
 mul-out c = omega arith
 
 slice-write-out-2 : tie.Need-slice-write-out-2 Inv-loop μ-loop
-slice-write-out-2 c = let h = walk-room (c .before .loop .inv) (λ e. omega arith) in omega arith
+slice-write-out-2 c = let h = walk-fits (c .before .loop .inv) (λ e. omega arith) in omega arith
 
 add-x-2 : tie.Need-add-x-2 Inv-loop μ-loop
 add-x-2 c = omega arith
