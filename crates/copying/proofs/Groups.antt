@@ -1,12 +1,13 @@
--- The words of a group, once its marked numbers have been written.
+-- The words of a group, once the numbers that pass a test have been written: those that are marked in a row, or others.
 use mathlib.Core.Path.{_≡_, refl, sym, subst, _∙_}
 use mathlib.Core.Logic.{_≢_}
-use mathlib.Core.Bool.{true, false}
+use mathlib.Core.Bool.{Bool, true, false}
 use mathlib.Core.List.{List, [], _∷_, map}
 use Prim.Native.Nat.{ℕ, zero, suc, _+_, _≤_, _<_}
 use native.Mathlib.Omega.{arith}
 use lib.ListN.{length, getD, set, length-append}
 use borrow.Author.Tests.{eq-eqb, ne-eqb}
+use Rattle.paths.specs.Passing.{passing}
 use Rattle.paths.proofs.Passing.{passing-more, passing-le}
 use Rattle.log.specs.Words.{word}
 use Rattle.writing.specs.Layout.{BeginsWith}
@@ -23,18 +24,20 @@ is-marked row b ne = rw (ne-eqb (getD row b 0) 0 ne)
 pub not-marked : (row : List ℕ) (b : ℕ) → getD row b 0 ≡ 0 → markedAt row b ≡ false
 not-marked row b e = rw (eq-eqb (getD row b 0) 0 e)
 
--- the group has room for a marked number behind those below it, and for the from word
-pub marked-room : (row : List ℕ) (a b : ℕ) → b < length row → getD row b 0 ≢ 0
-    → length (marked row b) + 2 ≤ length (group a (marked row (length row)))
-marked-room row a b h ne =
-    let more : length (marked row (b + 1)) ≡ length (marked row b) + 1 =
-    rw (passing-more (markedAt row) b (is-marked row b ne)) (length-append (marked row b) (b ∷ [])) in
-    let some = passing-le (markedAt row) (b + 1) (length row) (omega arith) in
-    rw (length-group a (marked row (length row))) (long (length (marked row b)) (length (marked row (length row))) (omega arith))
+-- the group has room for a number that passes behind those below it, and for the from word
+pub passing-room : (test : ℕ → Bool) (a b n : ℕ) → b < n → test b ≡ true → length (passing test b) + 2 ≤ length (group a (passing test n))
+passing-room test a b n h pass =
+    let more : length (passing test (b + 1)) ≡ length (passing test b) + 1 = rw (passing-more test b pass) (length-append (passing test b) (b ∷ [])) in
+    let some = passing-le test (b + 1) n (omega arith) in
+    rw (length-group a (passing test n)) (long (length (passing test b)) (length (passing test n)) (omega arith))
   where
     long : (k m : ℕ) → k + 1 ≤ m → k + 2 ≤ groupLength m
     long k zero p = absurd (omega arith)
     long k (suc m) p = omega arith
+
+pub marked-room : (row : List ℕ) (a b : ℕ) → b < length row → getD row b 0 ≢ 0
+    → length (marked row b) + 2 ≤ length (group a (marked row (length row)))
+marked-room row a b h ne = passing-room (markedAt row) a b (length row) h (is-marked row b ne)
 
 -- the from word of a group goes in front of its to words; a group of no links has no words
 module _ (a : ℕ) (o o′ : List ℕ) where
@@ -48,20 +51,20 @@ module _ (a : ℕ) (o o′ : List ℕ) where
   group-none [] e long w = (omega arith, w .1 ∙ sym (begins-itself o long .1))
   group-none (b ∷ bs) e long w = absurd (omega arith)
 
-module _ (row o o′ : List ℕ) (links b : ℕ) (s : Listing (markedAt row) 3 o o′ (length row) links b) (done : length row ≤ b) where
-  all : b ≡ length row
+module _ (test : ℕ → Bool) (o o′ : List ℕ) (n links b : ℕ) (s : Listing test 3 o o′ n links b) (done : n ≤ b) where
+  all : b ≡ n
   all = omega (arith, s .item)
 
-  size : links ≡ length (marked row (length row))
+  size : links ≡ length (passing test n)
   size = rw all at (s .size)
 
-  words : BeginsWith (getD o 0 0 ∷ map (word 3) (marked row (length row))) o o′
-  words = subst (λ (k : ℕ). BeginsWith (getD o 0 0 ∷ map (word 3) (marked row k)) o o′) all (s .words)
+  words : BeginsWith (getD o 0 0 ∷ map (word 3) (passing test n)) o o′
+  words = subst (λ (k : ℕ). BeginsWith (getD o 0 0 ∷ map (word 3) (passing test k)) o o′) all (s .words)
 
   -- the from word is written last, if there is a link
-  pub group-links : (a : ℕ) → links ≢ 0 → GroupWritten a (marked row (length row)) o (set o′ 0 (word 2 a)) links
-  group-links a ne = record { count = size; words = group-first a o o′ (marked row (length row)) (λ f. ne (size ∙ f)) words }
+  pub group-links : (a : ℕ) → links ≢ 0 → GroupWritten a (passing test n) o (set o′ 0 (word 2 a)) links
+  group-links a ne = record { count = size; words = group-first a o o′ (passing test n) (λ f. ne (size ∙ f)) words }
 
   -- no word is written if there is none
-  pub group-no-links : (a : ℕ) → links ≡ 0 → 0 < length o → GroupWritten a (marked row (length row)) o o′ links
-  group-no-links a none long = record { count = size; words = group-none a o o′ (marked row (length row)) (sym size ∙ none) long words }
+  pub group-no-links : (a : ℕ) → links ≡ 0 → 0 < length o → GroupWritten a (passing test n) o o′ links
+  group-no-links a none long = record { count = size; words = group-none a o o′ (passing test n) (sym size ∙ none) long words }

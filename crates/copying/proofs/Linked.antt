@@ -31,7 +31,7 @@ either : (x y : Bool) → x || y ≡ true → (x ≡ true) ⊎ (y ≡ true)
 either true y e = inl refl
 either false y e = inr e
 
-both : (x y : Bool) → x && y ≡ true → (x ≡ true) × (y ≡ true)
+pub both : (x y : Bool) → x && y ≡ true → (x ≡ true) × (y ≡ true)
 both true y e = (refl, e)
 both false y e = absurd (true≢false (sym e))
 

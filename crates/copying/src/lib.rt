@@ -3,8 +3,8 @@
 ghost use mathlib.Core.Path.{_≡_};
 ghost use mathlib.Core.Logic.{_≢_};
 ghost use Prim.Native.Nat.{_/_, _%_, _^_, _<_, _≤_};
-ghost use lib.ListN.{length, replicate};
-ghost use Rattle.log.specs.Words.{number};
+ghost use lib.ListN.{length, replicate, set};
+ghost use Rattle.log.specs.Words.{number, word, Small};
 ghost use Rattle.log.specs.Log.{graphOf, PassedLog};
 ghost use Rattle.writing.specs.Layout.{BeginsWith};
 ghost use Rattle.copying.specs.FairCopy.{linkedTo, group, fairWords};
@@ -85,7 +85,7 @@ fn copy_row(log: &[u32], n: usize, a: usize, out: &mut [u32], w: &mut [u32]) -> 
 }
 
 // How many words a group of so many links has.
-fn group_words(links: usize) -> usize
+pub fn group_words(links: usize) -> usize
     requires { ⌜ links < 2 ^ 28 ⌝ }
     ensures { λ r. ⌜ r ≡ groupLength links ⌝ }
 {
@@ -93,9 +93,9 @@ fn group_words(links: usize) -> usize
 }
 
 // How many words have been written, and the links among them.
-struct Written {
-    words: usize,
-    links: usize,
+pub struct Written {
+    pub words: usize,
+    pub links: usize,
 }
 
 // Writes the groups of all episodes behind the first word.
@@ -116,6 +116,15 @@ fn write_groups(log: &[u32], n: usize, out: &mut [u32], w: &mut [u32]) -> Writte
     Written { words, links }
 }
 
+// Writes the head before the groups and the end behind them.
+pub fn write_ends(n: usize, words: usize, links: usize, out: &mut [u32])
+    requires { ⌜ Small n × Small links × (words < length (now out)) ⌝ }
+    ensures { λ _. ⌜ now (out .exit) ≡ set (set (now (out .entry)) 0 (word 1 n)) words (word 15 links) ⌝ }
+{
+    out[0] = 0x1000_0000 + n as u32;
+    out[words] = 0xF000_0000 + links as u32;
+}
+
 // Writes the fair copy of a log that passes with `n` episodes, and gives its count of words.
 pub fn write_copy(log: &[u32], n: usize, out: &mut [u32], w: &mut [u32]) -> usize
     requires { ⌜ PassedLog (now log) × (graphOf (now log) .n ≡ n) × (length (now w) ≡ blockWords)
@@ -126,7 +135,6 @@ pub fn write_copy(log: &[u32], n: usize, out: &mut [u32], w: &mut [u32]) -> usiz
     let groups = write_groups(log, n, out, w);
     let words = groups.words;
     let links = groups.links;
-    out[0] = 0x1000_0000 + n as u32;
-    out[words] = 0xF000_0000 + links as u32;
+    write_ends(n, words, links, out);
     words + 1
 }

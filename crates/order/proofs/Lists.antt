@@ -26,7 +26,7 @@ use mathlib.Core.List.{
 use Prim.Native.Nat.{suc, _≤_, _<_, zero-le}
 use native.Mathlib.Omega.{arith}
 use lib.ListN.{length}
-use Rattle.order.specs.Order.{All, On}
+use Rattle.order.specs.Order.{All, On, consWhere, kept}
 
 module _ {A : Type 0} where
   pub all-nil : (P : A → Type 0) → All P []
@@ -66,45 +66,44 @@ find {A} {P} test (a ∷ l) = go (test a) (find test l)
     go (no np) (inl t) = inl (t .0, there (t .1), t .2)
     go (no np) (inr h) = inr (all-cons np h)
 
--- `x` in front of `l` where `P` holds
-where-yes : {A P : Type 0} → Dec P → A → List A → List A
-where-yes (yes p) x l = x ∷ l
-where-yes (no np) x l = l
-
 module _ {A : Type 0} {P : A → Type 0} (test : (x : A) → Dec (P x)) where
-  -- the members of `l` that have the property
-  pub kept : List A → List A
-  kept [] = []
-  kept (x ∷ l) = where-yes (test x) x (kept l)
-
-  pub kept-mem : {x : A} (l : List A) → Mem x (kept l) → Mem x l × P x
-  unfolding kept where-yes
+  pub kept-mem : {x : A} (l : List A) → Mem x (kept test l) → Mem x l × P x
+  unfolding kept
   kept-mem [] m = absurd (not-nil m)
   kept-mem {x} (y ∷ l) m = go (λ r. kept-mem l r) (test y) m
     where
-      go : (Mem x (kept l) → Mem x l × P x) → (d : Dec (P y)) → Mem x (where-yes d y (kept l)) → Mem x (y ∷ l) × P x
+      go : (Mem x (kept test l) → Mem x l × P x) → (d : Dec (P y)) → Mem x (consWhere d y (kept test l)) → Mem x (y ∷ l) × P x
       go rest (no np) r = (there (rest r .0), rest r .1)
       go rest (yes p) r = ⊎-elim (λ e. (here e, subst P (sym e) p)) (λ q. (there (rest q .0), rest q .1)) (mem-cases r)
 
-  pub mem-kept : {x : A} (l : List A) → Mem x l → P x → Mem x (kept l)
-  unfolding kept where-yes
+  pub mem-kept : {x : A} (l : List A) → Mem x l → P x → Mem x (kept test l)
+  unfolding kept
   mem-kept [] m p = absurd (not-nil m)
   mem-kept {x} (y ∷ l) m p = go (λ r. mem-kept l r p) (test y) (mem-cases m)
     where
-      go : (Mem x l → Mem x (kept l)) → (d : Dec (P y)) → (x ≡ y) ⊎ Mem x l → Mem x (where-yes d y (kept l))
+      go : (Mem x l → Mem x (kept test l)) → (d : Dec (P y)) → (x ≡ y) ⊎ Mem x l → Mem x (consWhere d y (kept test l))
       go rest (yes q) (inl e) = here e
       go rest (yes q) (inr r) = there (rest r)
       go rest (no nq) (inl e) = absurd (nq (subst P e p))
       go rest (no nq) (inr r) = rest r
 
-  pub kept-nodup : (l : List A) → List·Nodup l → List·Nodup (kept l)
-  unfolding kept where-yes
+  pub kept-nodup : (l : List A) → List·Nodup l → List·Nodup (kept test l)
+  unfolding kept
   kept-nodup [] p = p
   kept-nodup (y ∷ l) p = go (test y) (kept-nodup l (nodup-tail p))
     where
-      go : (d : Dec (P y)) → List·Nodup (kept l) → List·Nodup (where-yes d y (kept l))
+      go : (d : Dec (P y)) → List·Nodup (kept test l) → List·Nodup (consWhere d y (kept test l))
       go (no nq) r = r
       go (yes q) r = nodup-cons (λ m. nodup-head p (kept-mem l m .0)) r
+
+  pub length-kept : (l : List A) → length (kept test l) ≤ length l
+  unfolding kept
+  length-kept [] = zero-le
+  length-kept (y ∷ l) = go (test y) (length-kept l)
+    where
+      go : (d : Dec (P y)) → length (kept test l) ≤ length l → length (consWhere d y (kept test l)) ≤ suc (length l)
+      go (yes q) r = omega arith
+      go (no nq) r = omega arith
 
 module _ {A : Type 0} (dec : Discrete A) where
   -- whether `x` is a member of `l`

@@ -103,6 +103,15 @@ module _ (test : ℕ → Bool) where
       go (no ne) true f rest = omega (arith, rest (omega arith), ap length (passing-suc k true f), length-append (passing test k) (k ∷ []))
       go (no ne) false f rest = rw (passing-suc k false f) (rest (omega arith))
 
+  -- where none passes from a number on up to another, the same are below both
+  pub passing-skip : (j k : ℕ) → j ≤ k → ((v : ℕ) → j ≤ v → v < k → test v ≡ false) → passing test k ≡ passing test j
+  passing-skip j zero h none = let e : j ≡ 0 = omega arith in rw e refl
+  passing-skip j (suc k) h none = go (ℕ-discrete j (suc k)) (λ l. passing-skip j k l (λ v i m. none v i (omega arith)))
+    where
+      go : Dec (j ≡ suc k) → (j ≤ k → passing test k ≡ passing test j) → passing test (suc k) ≡ passing test j
+      go (yes e) rest = rw e refl
+      go (no ne) rest = passing-suc k false (none k (omega arith) (omega arith)) ∙ rest (omega arith)
+
 -- tests that agree on the numbers below `k` let the same ones pass
 pub passing-equal : (f g : ℕ → Bool) (k : ℕ) → ((v : ℕ) → v < k → f v ≡ g v) → passing f k ≡ passing g k
 unfolding passing

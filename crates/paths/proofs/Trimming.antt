@@ -16,11 +16,11 @@ use Prim.Native.Nat.{ℕ, zero, suc, _≤_, _<_}
 use native.Mathlib.Decide.{ℕ-discrete, decLt}
 use native.Mathlib.Omega.{arith}
 use lib.ListN.{length}
-use Rattle.order.specs.Order.{All, Chain, single, more}
-use Rattle.order.proofs.Lists.{all-cons, find, kept, kept-mem, mem-kept, kept-nodup, nodup-cons, nodup-le}
+use Rattle.order.specs.Order.{All, Chain, single, more, kept}
+use Rattle.order.proofs.Lists.{all-cons, find, kept-mem, mem-kept, kept-nodup, nodup-cons, nodup-le}
 use Rattle.order.proofs.Chains.{chain-map}
 use Rattle.paths.specs.Graph.{Graph, Episode, Link, EndsBelow, SameLinks, Way, one, step, Acyclic, Thread, Width}
-use Rattle.paths.specs.Trimmed.{SameWays, Stays, Trimmed}
+use Rattle.paths.specs.Trimmed.{SameWays, Stays, Trimmed, Implied}
 use Rattle.paths.proofs.Ways.{way-trans, way-last, way-map, decLink, decWay}
 use Rattle.paths.proofs.Threads.{thread-single, thread-cons}
 use Rattle.paths.proofs.Loops.{walk-way}
@@ -33,10 +33,6 @@ decBoth : {P Q : Type 0} → Dec P → Dec Q → Dec (P × Q)
 decBoth (yes p) (yes q) = yes (p, q)
 decBoth (yes p) (no nq) = no (λ b. nq (b .1))
 decBoth (no np) d = no (λ b. np (b .0))
-
--- a link from `a` and a way from there lead to `b`
-abbrev pub Implied : Graph → ℕ → ℕ → Type 0
-Implied g a b = (c : ℕ) × Link g a c × Way g c b
 
 -- two ways that meet lead on by a link and a way
 pub meet-implied : {g : Graph} {a c b : ℕ} → Way g a c → Way g c b → Implied g a b

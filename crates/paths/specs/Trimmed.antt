@@ -19,3 +19,7 @@ pub record Stays (g : Graph) (a b : ℕ) : Type 0 where
 pub record Trimmed (g h : Graph) : Type 0 where
   pub episodes : h .n ≡ g .n
   pub links : (a b : ℕ) → Link h a b ↔ Stays g a b
+
+-- a link from `a` and a way from there lead to `b`, so that the link from `a` to `b`, if there is one, does not stay
+abbrev pub Implied : Graph → ℕ → ℕ → Type 0
+Implied g a b = (c : ℕ) × Link g a c × Way g c b

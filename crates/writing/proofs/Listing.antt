@@ -6,7 +6,7 @@ use Prim.Native.Nat.{ℕ, _+_, _≤_, _<_}
 use native.Mathlib.Omega.{arith}
 use lib.ListN.{length, getD, set, length-append, length-set}
 use Rattle.paths.specs.Passing.{passing}
-use Rattle.paths.proofs.Passing.{passing-more, passing-same}
+use Rattle.paths.proofs.Passing.{passing-more, passing-same, passing-skip}
 use Rattle.log.specs.Words.{word}
 use Rattle.writing.specs.Layout.{BeginsWith}
 use Rattle.writing.proofs.Buffers.{begins-itself, begins-word}
@@ -49,3 +49,9 @@ module _ (test : ℕ → Bool) (kind : ℕ) (o : List ℕ) where
         let f : passing test (v + 1) ≡ passing test v = passing-same test v e in
         let q = s .few in
         record { item = omega arith; few = omega arith; same-length = s .same-length; size = rw f (s .size); words = moved o′ (sym f) (s .words) }
+
+    -- none passes up to `u`
+    pub listing-skip : (u : ℕ) → v ≤ u → u ≤ n → ((c : ℕ) → v ≤ c → c < u → test c ≡ false) → Listing test kind o o′ n k u
+    listing-skip u l h none =
+        let f : passing test u ≡ passing test v = passing-skip test v u l none in
+        record { item = h; few = omega (arith, s .few); same-length = s .same-length; size = rw f (s .size); words = moved o′ (sym f) (s .words) }

@@ -90,7 +90,7 @@ returns : tie.Need-returns Inv-loop μ-loop
 returns c =
     let a = c .before .before .before .args in
     let at = c .before .before .loop in
-    group-links (a .row .now) (a .out .now) (at .out) (at .links) (at .b) (at .inv) (omega arith) (a .a) (λ e. omega arith)
+    group-links (markedAt (a .row .now)) (a .out .now) (at .out) (length (a .row .now)) (at .links) (at .b) (at .inv) (omega arith) (a .a) (λ e. omega arith)
 
 same-length-2 : tie.Need-same-length-2 Inv-loop μ-loop
 same-length-2 c = omega arith
@@ -99,7 +99,7 @@ returns-2 : tie.Need-returns-2 Inv-loop μ-loop
 returns-2 c =
     let a = c .before .before .before .args in
     let at = c .before .before .loop in
-    group-no-links (a .row .now) (a .out .now) (at .out) (at .links) (at .b) (at .inv) (omega arith) (a .a) (omega arith) (omega arith)
+    group-no-links (markedAt (a .row .now)) (a .out .now) (at .out) (length (a .row .now)) (at .links) (at .b) (at .inv) (omega arith) (a .a) (omega arith) (omega arith)
 
 pub write-group-spec : {M : Type 1} → statement M
 write-group-spec =

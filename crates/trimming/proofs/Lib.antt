@@ -1,0 +1,4 @@
+-- The trimmed copy: its theorems are in TrimmedCopies; the other modules lead to the proof of the code.
+pub mod Kept
+pub mod Implying
+pub mod Rows
