@@ -52,7 +52,7 @@ pub same-fair : (g h : Graph) → SameLinks g h → fairWords g ≡ fairWords h
 same-fair g h s = fair-by-links g h (s .episodes) (λ a b i j. s .links a b)
 
 module _ (g : Graph) (few : Small (g .n)) (count : Small (length (g .links))) where
-  count-links : Small (length (groupLinks g (g .n)))
+  pub count-links : Small (length (groupLinks g (g .n)))
   count-links = omega (arith, length-group-links g (g .n))
 
   -- the links of the fair copy are those of the graph that join episodes
@@ -82,10 +82,10 @@ fair-equal g h gn gt ge hn ht he =
 
 -- the fair copy of a log `l` that passes with `n` episodes and `t` to words
 module _ (m : Ceilings) (l : List ℕ) (n t : ℕ) (e : questions m l ≡ given (n, t)) where
-  log-few : Small (graphOf l .n)
+  pub log-few : Small (graphOf l .n)
   log-few = number-lt (getD l 0 0)
 
-  log-count : Small (length (graphOf l .links))
+  pub log-count : Small (length (graphOf l .links))
   log-count = omega (arith, graph-count m l n t e, words-small m l n t e)
 
   -- it passes, with the same episodes and one to word for each link

@@ -2,11 +2,12 @@
 ghost use mathlib.Core.Path.{_≡_};
 ghost use Prim.Native.Nat.{_≤_};
 ghost use lib.ListN.{length, replicate};
+ghost use Rattle.log.specs.Answer.{readAnswer};
 ghost use Rattle.log.specs.Log.{service, graphOf, PassedLog};
 ghost use Rattle.writing.specs.Layout.{BeginsWith};
 ghost use Rattle.copying.specs.FairCopy.{fairWords};
 ghost use Rattle.report.specs.Report.{workWords};
-ghost use Rattle.fair_copy.specs.Copied.{CopyLeft};
+ghost use Rattle.fair_copy.specs.Copied.{copyAsked, CopyLeft};
 use log::Ceilings;
 use log::Reading;
 
@@ -30,23 +31,36 @@ fn copy(log: &[u32], n: usize, out: &mut [u32], work: &mut [u32]) -> usize
     words
 }
 
+// Questions 1 to 12 of a copy of a log, at a caller's ceilings, with so many words lent.
+pub fn copy_asked(most: Ceilings, log: &[u32], output: usize, work: usize) -> Reading
+    ensures { λ r. ⌜ readAnswer r ≡ copyAsked most (now (log .entry)) output work ⌝ }
+{
+    match log::read_within(most, log) {
+        Reading::Refused(number, place) => Reading::Refused(number, place),
+        Reading::Passed(n, t) => {
+            let needed = 2 + 2 * t;
+            if output < needed {
+                return Reading::Refused(11, needed);
+            }
+            let used = 16384;
+            if work < used {
+                return Reading::Refused(12, used);
+            }
+            Reading::Passed(n, t)
+        }
+    }
+}
+
 // The fair copy at a caller's ceilings.
 fn fair_copy_within(most: Ceilings, log: &[u32], out: &mut [u32], work: &mut [u32]) -> CopyOutcome
     requires { ⌜ most .episodes ≤ 256 ⌝ }
     ensures { λ r. ⌜ CopyLeft most (now (log .entry)) (now (out .entry)) (now (work .entry)) (now (out .exit)) (now (work .exit)) r ⌝ }
 {
-    match log::read_within(most, log) {
+    match copy_asked(most, log, out.len(), work.len()) {
         Reading::Refused(number, place) => CopyOutcome::Refused(number, place),
-        Reading::Passed(n, t) => {
-            let needed = 2 + 2 * t;
-            if out.len() < needed {
-                return CopyOutcome::Refused(11, needed);
-            }
-            let used = 16384;
-            if work.len() < used {
-                return CopyOutcome::Refused(12, used);
-            }
-            CopyOutcome::Copied(copy(log, n, out, &mut work[0..used]))
+        Reading::Passed(n, _) => {
+            let end = 16384;
+            CopyOutcome::Copied(copy(log, n, out, &mut work[0..end]))
         }
     }
 }

@@ -103,6 +103,10 @@ module _ {g : Graph} {n v : ℕ} {w : List ℕ} (ready : Ready g n w) (first : F
         shown = λ ne. absurd (ne refl);
       }
 
+-- where there is none, the work words are as before
+pub still-ready : {g : Graph} {n r : ℕ} {o w o′ w′ : List ℕ} → LoopSought g o w o′ w′ r → r ≡ 0 → Ready g n w → Ready g n w′
+still-ready {g} {n} s e ready = subst (λ (x : List ℕ). Ready g n x) (sym (s .none e .2)) ready
+
 -- every loop fits the words of a report
 pub loop-room : {g : Graph} {n k : ℕ} {w : List ℕ} → Ready g n w → reportNeed n ≤ k → (c : List ℕ) → Loop g c → length c + 1 ≤ k
 loop-room {g} ready room c loop = omega (arith, different-below (g .n) c (loop .once) (loop .episodes), ready .count)

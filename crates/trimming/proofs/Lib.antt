@@ -2,3 +2,4 @@
 pub mod Kept
 pub mod Implying
 pub mod Rows
+pub mod TrimmedCopies

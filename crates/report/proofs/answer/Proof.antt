@@ -1,27 +1,19 @@
 -- `report::answer` meets its contract: where a loop is shown it is the answer, and else the chains are joined and written as a report.
 -- Assumes nothing.
 use borrow.Author.Needs.{needs}
-use mathlib.Core.Path.{_≡_, sym, ap, subst}
+use mathlib.Core.Path.{ap, subst}
 use mathlib.Core.List.{List}
 use Prim.Native.Nat.{ℕ}
 use native.Mathlib.Omega.{arith}
 use lib.ListN.{length}
-use Rattle.paths.specs.Graph.{Graph}
 use Rattle.report.specs.Report.{ShowsReport}
-use Rattle.report.specs.Solving.{Ready}
-use Rattle.report.proofs.Answers.{loop-room, solved, report-answered}
+use Rattle.report.proofs.Answers.{loop-room, still-ready, solved, report-answered}
 use Rattle.report.proofs.answer.Statement.{statement}
 use Rattle.report.proofs.answer.Tie as tie
 
 -- the entry, from the place where it is known whether there is a loop
 abbrev start : tie.After-show-loop → tie.Start
 start c = c .before .before .before .before .before
-
--- where there is none, the work words are as before
-same-words : (c : tie.After-show-loop) (g : Graph) → Ready g (start c .args .n) (start c .args .w .now) → c .show-loop .result ≡ 0
-    → Ready g (start c .args .n) (c .show-loop .last .1 .1 .0)
-same-words c g ready none =
-    subst (λ (x : List ℕ). Ready g (start c .args .n) x) (sym (c .show-loop .ensures g ready .none none .2)) ready
 
 show-loop-requires : tie.Need-show-loop-requires
 show-loop-requires c κs =
@@ -42,7 +34,7 @@ join-requires : tie.Need-join-requires
 join-requires c κs =
     let at = c .before .before .before .before .before .before in
     let (g, before) = start at .pre .0 in
-    let ready = same-words at g before (omega arith) in
+    let ready = still-ready (at .show-loop .ensures g before) (omega arith) before in
     (record { long = ready .long; matrix = omega arith; items = ready .few }, λ i lo hi. ready .empty i lo (omega arith))
 
 write-report-requires : tie.Need-write-report-requires
@@ -51,7 +43,7 @@ write-report-requires c κs =
     let at = joined .before .before .before .before .before .before .before in
     let (g, before) = start at .pre .0 in
     let none = at .show-loop .ensures g before .none (omega arith) in
-    ((g, solved (same-words at g before (omega arith)) (none .0) (joined .join .ensures)), omega (arith, ap length (none .1), start at .pre .1))
+    ((g, solved (still-ready (at .show-loop .ensures g before) (omega arith) before) (none .0) (joined .join .ensures)), omega (arith, ap length (none .1), start at .pre .1))
 
 same-length-3 : tie.Need-same-length-3
 same-length-3 c = search needs
@@ -66,7 +58,7 @@ returns-2 c = λ g before.
     let at = joined .before .before .before .before .before .before .before in
     let none = at .show-loop .ensures g before .none (omega arith) in
     subst (λ (o : List ℕ). ShowsReport g (written .write-report .result) o (written .write-report .last .1 .1 .0)) (none .1)
-    (report-answered (same-words at g before (omega arith)) (none .0) (joined .join .ensures) (written .write-report .ensures))
+    (report-answered (still-ready (at .show-loop .ensures g before) (omega arith) before) (none .0) (joined .join .ensures) (written .write-report .ensures))
 
 pub answer-spec : {M : Type 1} → statement M
 answer-spec =

@@ -1,0 +1,2 @@
+-- A trimmed copy call by its questions, and what it leaves.
+pub mod TrimCalls

@@ -1,0 +1,3 @@
+-- What a trimmed copy call gives and leaves.
+pub mod Trimmed
+pub mod Answering
