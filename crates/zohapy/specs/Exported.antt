@@ -7,8 +7,10 @@ use Rattle.log.specs.Log.{service}
 use Rattle.parsing.specs.Whole.{ThreadNumber, ThreadStretch}
 use Rattle.report.specs.Report.{Left, outcomeAnswer}
 use Rattle.fair_copy.specs.Copied.{CopyLeft, copyAnswer}
+use Rattle.trimmed_copy.specs.Trimmed.{TrimLeft, trimAnswer}
 use Rattle.report.specs.declared.Outcome.{Outcome}
 use Rattle.fair_copy.specs.declared.CopyOutcome.{CopyOutcome}
+use Rattle.trimmed_copy.specs.declared.TrimOutcome.{TrimOutcome}
 
 -- A reading in four numbers: 0, 0, n and the count of to words, or a refusal's number and place and twice 0.
 abbrev pub readNumbers : Answer (ℕ × ℕ) → ℕ × ℕ × ℕ × ℕ
@@ -27,6 +29,10 @@ Reports l o w o′ w′ number value = (r : Outcome) × Left service l o w o′ 
 -- `number` and `value` are those of a fair copy call's outcome that leaves these buffers
 abbrev pub Copies : List ℕ → List ℕ → List ℕ → List ℕ → List ℕ → ℕ → ℕ → Type 0
 Copies l o w o′ w′ number value = (r : CopyOutcome) × CopyLeft service l o w o′ w′ r × (numbers (copyAnswer r) ≡ (number, value))
+
+-- `number` and `value` are those of a trimmed copy call's outcome that leaves these buffers
+abbrev pub Trims : List ℕ → List ℕ → List ℕ → List ℕ → List ℕ → ℕ → ℕ → Type 0
+Trims l o w o′ w′ number value = (r : TrimOutcome) × TrimLeft service l o w o′ w′ r × (numbers (trimAnswer r) ≡ (number, value))
 
 -- `number` is that of asking for thread `i`, and the `count` words from `start` on are its steps
 abbrev pub Thread : List ℕ → ℕ → ℕ → ℕ → ℕ → Type 0

@@ -1,10 +1,14 @@
-// The four services for C and Rust: exported functions, which answer in plain numbers.
+// The five services for C and Rust: exported functions, which answer in plain numbers.
 ghost use mathlib.Core.Path.{_≡_};
 ghost use Rattle.log.specs.Log.{service, questions};
-ghost use Rattle.zohapy.specs.Exported.{readNumbers, Reports, Copies, Thread};
+ghost use Rattle.zohapy.specs.Exported.{readNumbers, Reports, Copies, Trims, Thread};
 use fair_copy::CopyOutcome;
 use log::Reading;
 use report::Outcome;
+use trimmed_copy::TrimOutcome;
+
+// The number of the refusal of a log with a loop.
+const LOOP: u32 = 13;
 
 // A reading: number 0 with n and the count of to words, or a refusal's number and place. What is not given is 0.
 #[repr(C)]
@@ -62,7 +66,7 @@ pub extern "C" fn zohapy_report(log: &[u32], out: &mut [u32], work: &mut [u32]) 
             value: count,
         },
         Outcome::Loop(length) => Answer {
-            number: 13,
+            number: LOOP,
             value: length,
         },
         Outcome::Refused(number, place) => Answer {
@@ -83,6 +87,27 @@ pub extern "C" fn zohapy_fair_copy(log: &[u32], out: &mut [u32], work: &mut [u32
             value: words,
         },
         CopyOutcome::Refused(number, place) => Answer {
+            number,
+            value: place,
+        },
+    }
+}
+
+// The trimmed copy of a log. A loop is refusal 13 at its length.
+#[no_mangle]
+pub extern "C" fn zohapy_trimmed_copy(log: &[u32], out: &mut [u32], work: &mut [u32]) -> Answer
+    ensures { λ r. ⌜ Trims (now (log .entry)) (now (out .entry)) (now (work .entry)) (now (out .exit)) (now (work .exit)) (r .number) (r .value) ⌝ }
+{
+    match trimmed_copy::trimmed_copy(log, out, work) {
+        TrimOutcome::Trimmed(trimmed) => Answer {
+            number: 0,
+            value: trimmed,
+        },
+        TrimOutcome::Loop(length) => Answer {
+            number: LOOP,
+            value: length,
+        },
+        TrimOutcome::Refused(number, place) => Answer {
             number,
             value: place,
         },

@@ -1,6 +1,8 @@
 -- `zohapy::zohapy_fair_copy` meets its contract: the call leaves what the fair copy left, and says it in numbers. Assumes nothing.
 use native.Mathlib.Omega.{arith}
-use Rattle.zohapy.proofs.Numbers.{copy-numbers, copy-refusal-numbers}
+use mathlib.Core.Path.{refl}
+use Rattle.fair_copy.specs.Copied.{copyAnswer}
+use Rattle.zohapy.proofs.Numbers.{told-numbers}
 use borrow.Author.Needs.{needs}
 use Rattle.zohapy.proofs.zohapy_fair_copy.Statement.{statement}
 use Rattle.zohapy.proofs.zohapy_fair_copy.Tie as tie
@@ -23,7 +25,7 @@ same-length-2 c = search needs
 returns : tie.Need-returns
 returns c =
     let at = c .before .before .before .before .before .before .before in
-    (at .fair-copy .result, at .fair-copy .ensures, copy-numbers (at .fair-copy .result) _ _ (c .before .words .given .0 .0) (c .before .words .given .1) (omega arith) (omega arith))
+    (at .fair-copy .result, at .fair-copy .ensures, told-numbers copyAnswer (at .fair-copy .result) _ _ _ _ _ (c .before .words .given .1) refl (omega arith) (omega arith))
 
 same-length-3 : tie.Need-same-length-3
 same-length-3 c = search needs
@@ -34,7 +36,7 @@ same-length-4 c = search needs
 returns-2 : tie.Need-returns-2
 returns-2 c =
     let at = c .before .before .before .before .before .before .before in
-    (at .fair-copy .result, at .fair-copy .ensures, copy-refusal-numbers (at .fair-copy .result) _ _ (c .before .number .given .0 .0) (c .before .number .given .0 .1 .0) (c .before .number .given .1) (omega arith) (omega arith))
+    (at .fair-copy .result, at .fair-copy .ensures, told-numbers copyAnswer (at .fair-copy .result) _ _ _ _ _ (c .before .number .given .1) refl (omega arith) (omega arith))
 
 pub zohapy-fair-copy-spec : {M : Type 1} → statement M
 zohapy-fair-copy-spec =

@@ -1,6 +1,8 @@
 -- `zohapy::zohapy_report` meets its contract: the call leaves what the report call left, and says it in numbers. Assumes nothing.
 use native.Mathlib.Omega.{arith}
-use Rattle.zohapy.proofs.Numbers.{report-numbers, loop-numbers, refusal-numbers}
+use mathlib.Core.Path.{refl}
+use Rattle.report.specs.Report.{outcomeAnswer}
+use Rattle.zohapy.proofs.Numbers.{told-numbers}
 use borrow.Author.Needs.{needs}
 use Rattle.zohapy.proofs.zohapy_report.Statement.{statement}
 use Rattle.zohapy.proofs.zohapy_report.Tie as tie
@@ -26,7 +28,7 @@ same-length-2 c = search needs
 returns : tie.Need-returns
 returns c =
     let at = c .before .before .before .before .before .before .before in
-    (at .report .result, at .report .ensures, report-numbers (at .report .result) _ _ (c .before .count .given .0 .0) (c .before .count .given .1) (omega arith) (omega arith))
+    (at .report .result, at .report .ensures, told-numbers outcomeAnswer (at .report .result) _ _ _ _ _ (c .before .count .given .1) refl (omega arith) (omega arith))
 
 same-length-3 : tie.Need-same-length-3
 same-length-3 c = search needs
@@ -37,7 +39,7 @@ same-length-4 c = search needs
 returns-2 : tie.Need-returns-2
 returns-2 c =
     let at = c .before .before .before .before .before .before .before in
-    (at .report .result, at .report .ensures, loop-numbers (at .report .result) _ _ (c .before .length .given .0 .0) (c .before .length .given .1) (omega arith) (omega arith))
+    (at .report .result, at .report .ensures, told-numbers outcomeAnswer (at .report .result) _ _ _ _ _ (c .before .length .given .1) refl (omega arith) (omega arith))
 
 same-length-5 : tie.Need-same-length-5
 same-length-5 c = search needs
@@ -48,7 +50,7 @@ same-length-6 c = search needs
 returns-3 : tie.Need-returns-3
 returns-3 c =
     let at = c .before .before .before .before .before .before .before in
-    (at .report .result, at .report .ensures, refusal-numbers (at .report .result) _ _ (c .before .number .given .0 .0) (c .before .number .given .0 .1 .0) (c .before .number .given .1) (omega arith) (omega arith))
+    (at .report .result, at .report .ensures, told-numbers outcomeAnswer (at .report .result) _ _ _ _ _ (c .before .number .given .1) refl (omega arith) (omega arith))
 
 pub zohapy-report-spec : {M : Type 1} → statement M
 zohapy-report-spec =
