@@ -1,4 +1,4 @@
-/* The sleeper report: the four services of the proved library, for C. Link build/libzohapy.a.
+/* The sleeper report: the five services of the proved library, for C. Link build/libzohapy.a.
  *
  * A log is an array of 32-bit words; a word's top 4 bits are its kind and its low 28 bits its number. Every call ends with an
  * answer or one numbered refusal, on any content and length. A pointer must be aligned and not null, also where the length is 0,
@@ -13,10 +13,13 @@
 extern "C" {
 #endif
 
-/* The work words that a report or a fair copy needs. */
+/* The version of the library. */
+#define ZOHAPY_VERSION "0.2.0"
+
+/* The work words that a report or a copy needs. */
 #define ZOHAPY_WORK_WORDS 16384
 
-/* The output words that a report on n episodes needs, and a fair copy of a log with t to words. */
+/* The output words that a report on n episodes needs, and a fair or a trimmed copy of a log with t to words. */
 #define ZOHAPY_REPORT_WORDS(n) (2 + 2 * (size_t)(n) + ((size_t)(n) + 1) * ((size_t)(n) + 1) / 4)
 #define ZOHAPY_COPY_WORDS(t) (2 + 2 * (size_t)(t))
 
@@ -52,6 +55,12 @@ zohapy_answer zohapy_report(const uint32_t *log, size_t log_words, uint32_t *out
  * 0 the output begins with the copy; the rest of both buffers is as after a report. */
 zohapy_answer zohapy_fair_copy(const uint32_t *log, size_t log_words, uint32_t *out, size_t out_words, uint32_t *work,
                                size_t work_words);
+
+/* The trimmed copy of a log without loops: in the layout of the fair copy, only those links A-B for which no other path leads from A
+ * to B. It is one form for all such logs with the same n and the same ways. Refusals 1 to 12 change no word. After 0 the output
+ * begins with the copy, after 13 with a loop as after a report; the rest of both buffers is as after a report. */
+zohapy_answer zohapy_trimmed_copy(const uint32_t *log, size_t log_words, uint32_t *out, size_t out_words, uint32_t *work,
+                                  size_t work_words);
 
 /* The steps of thread i of a report, counted from 0: report[start] to report[start + length - 1], each a word of kind 7. */
 zohapy_thread_answer zohapy_thread(const uint32_t *report, size_t report_words, size_t i);

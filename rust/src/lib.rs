@@ -1,4 +1,4 @@
-//! The sleeper report for Rust programs: the four services of the proved library, on lent buffers.
+//! The sleeper report for Rust programs: the five services of the proved library, on lent buffers.
 //!
 //! A log is a list of 32-bit words; a word's top 4 bits are its kind and its low 28 bits its number. Each call ends, on any log
 //! and any buffers, with an answer or one numbered refusal, and what it leaves in every word of the buffers is fixed:
@@ -27,7 +27,10 @@ pub use owned::{Failure, Report};
 /// The most bytes that a log has: those of 4,096 groups of one to word each, with head and end.
 pub const LOG_BYTES: usize = 32_776;
 
-/// The work words that a report or a fair copy needs.
+/// The version of the library.
+pub const VERSION: &str = env!("CARGO_PKG_VERSION");
+
+/// The work words that a report or a copy needs.
 pub const WORK_WORDS: usize = 16_384;
 
 /// The output words that a report on `episodes` episodes needs.
@@ -35,7 +38,7 @@ pub const fn report_words(episodes: usize) -> usize {
     2 + 2 * episodes + (episodes + 1) * (episodes + 1) / 4
 }
 
-/// The output words that a fair copy of a log with `links` to words needs.
+/// The output words that a fair or a trimmed copy of a log with `links` to words needs.
 pub const fn copy_words(links: usize) -> usize {
     2 + 2 * links
 }
@@ -88,6 +91,17 @@ pub enum Outcome {
     Refused(Refusal),
 }
 
+/// The outcome of a trimmed copy call.
+#[derive(Clone, Copy, Debug, PartialEq, Eq)]
+pub enum TrimOutcome {
+    /// The output begins with a trimmed copy of this many words.
+    Trimmed(usize),
+    /// Refusal 13: the output begins with a loop of this many episodes, one word more.
+    Loop(usize),
+    /// A refusal 1 to 12.
+    Refused(Refusal),
+}
+
 mod library {
     #[repr(C)]
     pub struct ReadAnswer {
@@ -129,6 +143,14 @@ mod library {
             work: *mut u32,
             work_words: usize,
         ) -> Answer;
+        pub fn zohapy_trimmed_copy(
+            log: *const u32,
+            log_words: usize,
+            out: *mut u32,
+            out_words: usize,
+            work: *mut u32,
+            work_words: usize,
+        ) -> Answer;
         pub fn zohapy_thread(report: *const u32, report_words: usize, i: usize) -> ThreadAnswer;
     }
 }
@@ -163,6 +185,20 @@ pub fn fair_copy(log: &[u32], out: &mut [u32], work: &mut [u32]) -> Result<usize
     match answer.number {
         0 => Ok(answer.value),
         number => Err(Refusal { number, place: answer.value }),
+    }
+}
+
+/// The trimmed copy of a log, or a loop of it: only those links A-B for which no other path leads from A to B. Lend [`copy_words`]
+/// output words and [`WORK_WORDS`] work words.
+pub fn trimmed_copy(log: &[u32], out: &mut [u32], work: &mut [u32]) -> TrimOutcome {
+    // SAFETY: the pointers and the lengths are those of three slices, no two of which share a word; the call stays within them.
+    let answer = unsafe {
+        library::zohapy_trimmed_copy(log.as_ptr(), log.len(), out.as_mut_ptr(), out.len(), work.as_mut_ptr(), work.len())
+    };
+    match answer.number {
+        0 => TrimOutcome::Trimmed(answer.value),
+        13 => TrimOutcome::Loop(answer.value),
+        number => TrimOutcome::Refused(Refusal { number, place: answer.value }),
     }
 }
 
