@@ -56,9 +56,9 @@ zohapy_answer zohapy_report(const uint32_t *log, size_t log_words, uint32_t *out
 zohapy_answer zohapy_fair_copy(const uint32_t *log, size_t log_words, uint32_t *out, size_t out_words, uint32_t *work,
                                size_t work_words);
 
-/* The trimmed copy of a log without loops: in the layout of the fair copy, only those links A-B for which no other path leads from A
- * to B. It is one form for all such logs with the same n and the same ways. Refusals 1 to 12 change no word. After 0 the output
- * begins with the copy, after 13 with a loop as after a report; the rest of both buffers is as after a report. */
+/* The trimmed copy of a log without loops: in the layout of the fair copy, only those links A-B for which no other path leads
+ * from A to B. It is one form for all such logs with the same n and the same ways. Refusals 1 to 12 change no word. After 0 the
+ * output begins with the copy, after 13 with a loop as after a report; the rest of both buffers is as after a report. */
 zohapy_answer zohapy_trimmed_copy(const uint32_t *log, size_t log_words, uint32_t *out, size_t out_words, uint32_t *work,
                                   size_t work_words);
 

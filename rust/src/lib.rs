@@ -188,8 +188,8 @@ pub fn fair_copy(log: &[u32], out: &mut [u32], work: &mut [u32]) -> Result<usize
     }
 }
 
-/// The trimmed copy of a log, or a loop of it: only those links A-B for which no other path leads from A to B. Lend [`copy_words`]
-/// output words and [`WORK_WORDS`] work words.
+/// The trimmed copy of a log, or a loop of it: only those links A-B for which no other path leads from A to B. Lend
+/// [`copy_words`] output words and [`WORK_WORDS`] work words.
 pub fn trimmed_copy(log: &[u32], out: &mut [u32], work: &mut [u32]) -> TrimOutcome {
     // SAFETY: the pointers and the lengths are those of three slices, no two of which share a word; the call stays within them.
     let answer = unsafe {
