@@ -1,4 +1,4 @@
-//! Text forms and pictures of logs.
+//! Text forms, pictures and trimmed copies of logs.
 
 mod log;
 mod picture;
@@ -11,20 +11,27 @@ use std::io::{Read, Write};
 use std::process::ExitCode;
 
 use log::Log;
-use zohapy::{Failure, LOG_BYTES, Refusal, Report, bytes_from_words, words_from_bytes};
+use zohapy::{
+    Failure, LOG_BYTES, Refusal, Report, TrimOutcome, VERSION, WORK_WORDS, bytes_from_words, copy_words, number, trimmed_copy,
+    words_from_bytes,
+};
 
 const USAGE: &str = "\
 usage: zohapy-tool COMMAND [FILE]
 
-  bytes     from the text form of a log, its bytes
-  text      from the bytes of a log, its text form
-  picture   from the bytes of a log, an SVG picture of its report, or of its loop
-  --help    this text
+  bytes       from the text form of a log, its bytes
+  text        from the bytes of a log, its text form
+  picture     from the bytes of a log, an SVG picture of its report, or of its loop
+  trim        from the bytes of a log, the bytes of its trimmed copy
+  --version   the version
+  --help      this text
 
 Without FILE, or where it is -, standard input is read. The answer goes to standard output.
 
 The text form has a line `episodes N`, then a line `A-B` for each link. Blank lines and lines that start with # are passed over.
 `bytes` does not ask whether the log would be accepted. `text` asks questions 1 to 10, and `picture` also shows a loop.
+The trimmed copy has only those links A-B for which no other path leads from A to B. A log with a loop has none: `trim` refuses
+it and prints the loop too.
 
 exit status: 0; 1 where the log is refused, with `refused N at P` on standard error; 2 on any other trouble.
 ";
@@ -39,6 +46,12 @@ struct Trouble {
 impl From<Refusal> for Trouble {
     fn from(refusal: Refusal) -> Trouble {
         Trouble { status: 1, message: refusal.to_string() }
+    }
+}
+
+impl From<Failure> for Trouble {
+    fn from(failure: Failure) -> Trouble {
+        Trouble { status: 1, message: failure.to_string() }
     }
 }
 
@@ -68,9 +81,11 @@ fn run(arguments: &[OsString]) -> Result<Vec<u8>, Trouble> {
     };
     let command = match command.to_str() {
         Some("--help" | "-h") => return Ok(USAGE.into()),
+        Some("--version") => return Ok(format!("zohapy-tool {VERSION}\n").into()),
         Some("bytes") => bytes,
         Some("text") => text,
         Some("picture") => picture,
+        Some("trim") => trim,
         _ => return Err(other(USAGE)),
     };
     match file {
@@ -104,6 +119,17 @@ fn picture(input: &mut dyn Read) -> Result<Vec<u8>, Trouble> {
         Ok(report) => Ok(picture::of_report(&log, &report).into_bytes()),
         Err(Failure::Loop(episodes)) => Ok(picture::of_loop(&log, &episodes).into_bytes()),
         Err(Failure::Refused(refusal)) => Err(refusal.into()),
+    }
+}
+
+/// The bytes of a log's trimmed copy from its bytes.
+fn trim(input: &mut dyn Read) -> Result<Vec<u8>, Trouble> {
+    let words = words(input)?;
+    let mut out = vec![0; copy_words(zohapy::read(&words)?.links)];
+    match trimmed_copy(&words, &mut out, &mut vec![0; WORK_WORDS]) {
+        TrimOutcome::Trimmed(count) => Ok(bytes_from_words(&out[..count])),
+        TrimOutcome::Loop(length) => Err(Failure::Loop(out[1..=length].iter().map(|word| number(*word)).collect()).into()),
+        TrimOutcome::Refused(refusal) => Err(refusal.into()),
     }
 }
 
@@ -143,8 +169,11 @@ mod tests {
         let made = bytes(&mut &b"episodes 5\n0-1\n2-7\n"[..]).expect("a text form");
         assert_eq!(text(&mut &made[..]), refused(7, 4));
         assert_eq!(picture(&mut &made[..]), refused(7, 4));
+        assert_eq!(trim(&mut &made[..]), refused(7, 4));
         assert_eq!(text(&mut &made[..7]), refused(15, 7));
+        assert_eq!(trim(&mut &made[..7]), refused(15, 7));
         assert_eq!(picture(&mut std::io::repeat(0)), refused(14, 32776));
+        assert_eq!(trim(&mut std::io::repeat(0)), refused(14, 32776));
     }
 
     #[test]
@@ -156,9 +185,31 @@ mod tests {
     }
 
     #[test]
+    fn a_trimmed_copy_has_only_links_without_another_path() {
+        let made = bytes(&mut &b"episodes 4\n2-3\n0-3\n1-2\n0-1\n0-2\n0-1\n"[..]).expect("a text form");
+        let trimmed = trim(&mut &made[..]).expect("the log has no loop");
+        let words = [0x1000_0004, 0x2000_0000, 0x3000_0001, 0x2000_0001, 0x3000_0002, 0x2000_0002, 0x3000_0003, 0xF000_0003];
+        assert_eq!(trimmed, bytes_from_words(&words));
+        assert_eq!(text(&mut &trimmed[..]), Ok(b"episodes 4\n0-1\n1-2\n2-3\n".to_vec()));
+        assert_eq!(trim(&mut &trimmed[..]), Ok(trimmed));
+    }
+
+    #[test]
+    fn a_loop_has_no_trimmed_copy() {
+        for (given, lines) in [
+            (&b"episodes 6\n0-1\n5-1\n1-4\n4-5\n"[..], "refused 13 at 3\nloop 1 4 5\n"),
+            (b"episodes 200\n5-5\n", "refused 13 at 1\nloop 5\n"),
+        ] {
+            let made = bytes(&mut { given }).expect("a text form");
+            assert_eq!(trim(&mut &made[..]), Err(Trouble { status: 1, message: lines.to_string() }));
+        }
+    }
+
+    #[test]
     fn arguments() {
         let run = |arguments: &[&str]| run(&arguments.iter().map(OsString::from).collect::<Vec<_>>());
         assert_eq!(run(&["--help"]), Ok(USAGE.into()));
+        assert_eq!(run(&["--version"]), Ok(format!("zohapy-tool {}\n", env!("CARGO_PKG_VERSION")).into()));
         for wrong in [&[][..], &["sing"], &["text", "a", "b"]] {
             assert_eq!(run(wrong), Err(other(USAGE)));
         }

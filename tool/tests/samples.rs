@@ -1,5 +1,5 @@
 //! The tool on the logs in samples/. Each has what a report program prints for it; all but the damaged one have a text form and a
-//! picture.
+//! picture, and all but this and the loop a trimmed copy.
 
 use std::path::PathBuf;
 use std::process::{Command, Output};
@@ -59,6 +59,30 @@ fn each_has_a_picture_or_a_refusal() {
 #[test]
 fn the_stored_picture_is_that_of_the_log() {
     assert!(run("picture", "small-night", "log").stdout == content("small-night", "svg"));
+}
+
+#[test]
+fn the_stored_trimmed_copy_is_that_of_the_log() {
+    let trimmed = run("trim", "full-night", "log").stdout;
+    assert!(trimmed == run("bytes", "full-night", "trimmed.txt").stdout);
+    let report = |bytes: &[u8]| Report::of(&words_from_bytes(bytes).expect("the bytes are words")).expect("there is no loop");
+    let (of_log, of_copy) = (report(&content("full-night", "log")), report(&trimmed));
+    assert_eq!((of_copy.width, of_copy.apart), (of_log.width, of_log.apart));
+}
+
+#[test]
+fn small_samples_have_nothing_to_trim() {
+    for name in ["whole-example", "small-night"] {
+        assert!(run("trim", name, "log").stdout == content(name, "log"), "{name}");
+    }
+}
+
+#[test]
+fn trim_prints_the_lines_of_a_refusal() {
+    for name in ["loop", "damaged"] {
+        let Output { status, stdout, stderr } = run("trim", name, "log");
+        assert_eq!((status.code(), &stdout[..], &stderr[..]), (Some(1), &b""[..], &content(name, "out")[..]), "{name}");
+    }
 }
 
 #[test]
