@@ -1,5 +1,5 @@
-/* The four services from C, on a log of 5 episodes with the links 0-1 and 2-3, and their refusals. Prints what
- * examples/expected.txt holds; exits with 1 where a refusal has another number than is meant here. */
+/* The five services from C, on a log of 5 episodes with the links 0-1 and 2-3 and other small logs, and their refusals. Prints
+ * what examples/expected.txt holds; exits with 1 where a refusal has another number than is meant here. */
 #include <inttypes.h>
 #include <stdio.h>
 
@@ -26,6 +26,9 @@ static const struct {
     {10, 4, {0x10000005, 0x20000000, 0x30000001, 0xF0000000}}, /* the end says 0 and there is 1 */
 };
 
+/* 3 episodes and the links 0-1, 0-2 and 1-2. The path 0 1 2 stands beside the link 0-2. */
+static const uint32_t beside[] = {0x10000003, 0x20000000, 0x30000001, 0x30000002, 0x20000001, 0x30000002, 0xF0000003};
+
 static const uint32_t loop[] = {0x10000002, 0x20000000, 0x30000001, 0x20000001, 0x30000000, 0xF0000002};
 
 static uint32_t out[ZOHAPY_REPORT_WORDS(5)];
@@ -40,6 +43,14 @@ static void print_numbers(const char *name, const uint32_t *words, size_t count)
     printf("%s", name);
     for (size_t i = 0; i < count; i++)
         printf(" %" PRIu32, number_of(words[i]));
+    printf("\n");
+}
+
+/* Prints a line of a name and words. */
+static void print_words(const char *name, const uint32_t *words, size_t count) {
+    printf("%s", name);
+    for (size_t i = 0; i < count; i++)
+        printf(" %08" PRIX32, words[i]);
     printf("\n");
 }
 
@@ -67,16 +78,21 @@ int main(void) {
         print_numbers("thread", out + thread.start, thread.length);
     }
 
-    uint32_t copied[ZOHAPY_COPY_WORDS(2)];
+    uint32_t copied[ZOHAPY_COPY_WORDS(3)];
     zohapy_answer copy = zohapy_fair_copy(whole, WORDS(whole), copied, WORDS(copied), work, WORDS(work));
     if (copy.number != 0) {
         fprintf(stderr, "a copy was meant\n");
         return 1;
     }
-    printf("copy");
-    for (size_t i = 0; i < copy.value; i++)
-        printf(" %08" PRIX32, copied[i]);
-    printf("\n");
+    print_words("copy", copied, copy.value);
+
+    /* The trimmed copy leaves out 0-2. */
+    copy = zohapy_trimmed_copy(beside, WORDS(beside), copied, WORDS(copied), work, WORDS(work));
+    if (copy.number != 0) {
+        fprintf(stderr, "a trimmed copy was meant\n");
+        return 1;
+    }
+    print_words("trimmed", copied, copy.value);
 
     for (size_t i = 0; i < WORDS(refused); i++) {
         zohapy_read_answer answer = zohapy_read(refused[i].words, refused[i].count);
@@ -94,6 +110,11 @@ int main(void) {
     print_refusal(13, answer.number, answer.value);
     print_numbers("loop", out + 1, number_of(out[0]));
     print_refusal(16, zohapy_thread(out, answer.value + 1, 0).number, 0);
+
+    /* It has no trimmed copy: the call shows the loop too. */
+    answer = zohapy_trimmed_copy(loop, WORDS(loop), copied, WORDS(copied), work, WORDS(work));
+    print_refusal(13, answer.number, answer.value);
+    print_numbers("loop", copied + 1, number_of(copied[0]));
 
     /* A report of one thread, and the call for a second one. */
     const uint32_t one[] = {0x40000001, 0x50000000, 0x60000001, 0x70000000, 0xF0000004};

@@ -1,9 +1,9 @@
-//! With the name of a file: the report on the log whose bytes it holds. Without: the four services on a log of 5 episodes with
-//! the links 0-1 and 2-3, and their refusals; it prints what examples/expected.txt holds.
+//! With the name of a file: the report on the log whose bytes it holds. Without: the five services on a log of 5 episodes with
+//! the links 0-1 and 2-3 and other small logs, and their refusals; it prints what examples/expected.txt holds.
 
 use std::error::Error;
 
-use zohapy::{Outcome, Refusal, Report, WORK_WORDS};
+use zohapy::{Failure, Outcome, Refusal, Report, TrimOutcome, WORK_WORDS};
 
 const WHOLE: [u32; 6] = [0x1000_0005, 0x2000_0000, 0x3000_0001, 0x2000_0002, 0x3000_0003, 0xF000_0002];
 
@@ -19,6 +19,9 @@ const REFUSED: [&[u32]; 9] = [
     &[0x1000_0005, 0x2000_0000, 0x3000_0001, 0x3000_0002], // 9: no end
     &[0x1000_0005, 0x2000_0000, 0x3000_0001, 0xF000_0000], // 10: the end says 0 and there is 1
 ];
+
+/// 3 episodes and the links 0-1, 0-2 and 1-2. The path 0 1 2 stands beside the link 0-2.
+const BESIDE: [u32; 7] = [0x1000_0003, 0x2000_0000, 0x3000_0001, 0x3000_0002, 0x2000_0001, 0x3000_0002, 0xF000_0003];
 
 const LOOP: [u32; 6] = [0x1000_0002, 0x2000_0000, 0x3000_0001, 0x2000_0001, 0x3000_0000, 0xF000_0002];
 
@@ -38,7 +41,12 @@ fn main() -> Result<(), Box<dyn Error>> {
     let mut out = vec![0; zohapy::report_words(5)];
     let mut work = vec![0; WORK_WORDS];
     let count = zohapy::fair_copy(&WHOLE, &mut out, &mut work)?;
-    println!("copy {}", out[..count].iter().map(|word| format!("{word:08X}")).collect::<Vec<_>>().join(" "));
+    print_words("copy", &out[..count]);
+    // The trimmed copy leaves out 0-2.
+    match zohapy::trimmed_copy(&BESIDE, &mut out, &mut work) {
+        TrimOutcome::Trimmed(count) => print_words("trimmed", &out[..count]),
+        answered => panic!("the log has a trimmed copy, not {answered:?}"),
+    }
     for log in REFUSED {
         print_refusal(zohapy::read(log));
     }
@@ -46,8 +54,23 @@ fn main() -> Result<(), Box<dyn Error>> {
     print_outcome(zohapy::report(&WHOLE, &mut out, &mut work[..WORK_WORDS - 1]));
     print!("{}", Report::of(&LOOP).expect_err("the log has a loop"));
     print_refusal(zohapy::thread(&LOOP, 0));
+    // A log with a loop has no trimmed copy: the call shows the loop too.
+    match zohapy::trimmed_copy(&LOOP, &mut out, &mut work) {
+        TrimOutcome::Loop(length) => print!("{}", Failure::Loop(numbers(&out[1..=length]))),
+        answered => panic!("the log has a loop, not {answered:?}"),
+    }
     print_refusal(zohapy::thread(&[0x4000_0001, 0x5000_0000, 0x6000_0001, 0x7000_0000, 0xF000_0004], 1));
     Ok(())
+}
+
+/// The numbers of words.
+fn numbers(words: &[u32]) -> Vec<u32> {
+    words.iter().map(|word| zohapy::number(*word)).collect()
+}
+
+/// Prints a line of a name and words.
+fn print_words(name: &str, words: &[u32]) {
+    println!("{name} {}", words.iter().map(|word| format!("{word:08X}")).collect::<Vec<_>>().join(" "));
 }
 
 /// Prints the refusal of a call that must be refused.
