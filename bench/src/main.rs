@@ -1,10 +1,11 @@
 //! Measures the library beside a plain program.
 //!
-//! - `measurements times [ROUNDS]` checks that both programs give right reports, and prints tables of times;
+//! - `measurements times [ROUNDS]` checks the answers of both programs, and prints tables of times;
 //! - `measurements call PROGRAM LOG` makes one call, for a count of its instructions.
 
+mod checks;
 mod plain;
-mod reports;
+mod services;
 mod shapes;
 mod times;
 
@@ -29,8 +30,10 @@ fn call(program: &str, log: &[u32]) -> Option<()> {
     match program {
         "read" => drop(black_box(zohapy::read(black_box(log)))),
         "report" => drop(black_box(zohapy::report(black_box(log), &mut out, &mut work))),
-        "copy" => drop(black_box(zohapy::fair_copy(black_box(log), &mut out, &mut work))),
-        "plain" => drop(black_box(plain::report(black_box(log), &mut out, &mut work))),
+        "fair-copy" => drop(black_box(zohapy::fair_copy(black_box(log), &mut out, &mut work))),
+        "trimmed-copy" => drop(black_box(zohapy::trimmed_copy(black_box(log), &mut out, &mut work))),
+        "plain-report" => drop(black_box(plain::report(black_box(log), &mut out, &mut work))),
+        "plain-trimmed-copy" => drop(black_box(plain::trimmed_copy(black_box(log), &mut out, &mut work))),
         _ => return None,
     }
     Some(())
@@ -50,7 +53,8 @@ fn main() {
     let words: Vec<String> = std::env::args().skip(1).collect();
     let words: Vec<&str> = words.iter().map(String::as_str).collect();
     if run(&words).is_none() {
-        eprintln!("measurements times [ROUNDS] | measurements call read|report|copy|plain LOG");
+        eprintln!("measurements times [ROUNDS] | measurements call PROGRAM LOG");
+        eprintln!("PROGRAM: read report fair-copy trimmed-copy plain-report plain-trimmed-copy");
         std::process::exit(2);
     }
 }

@@ -1,7 +1,8 @@
-//! The same report by a plain program: a closure of bit sets, and Hopcroft-Karp matching. The library is measured beside it.
+//! The same report and the same trimmed copy by a plain program: a closure of bit sets, and Hopcroft-Karp matching for the
+//! report. The library is measured beside it.
 
 use crate::shapes::{EPISODES, WORDS};
-use zohapy::{Outcome, Refusal, WORK_WORDS, kind, number, report_words};
+use zohapy::{Reading, Refusal, WORK_WORDS, copy_words, kind, number, report_words};
 
 /// A set of episodes.
 type Row = [u64; 4];
@@ -27,6 +28,11 @@ fn join(row: &mut Row, more: &Row) {
     row.iter_mut().zip(more).for_each(|(word, &other)| *word |= other);
 }
 
+/// Takes the members of `less` out of `row`.
+fn cut(row: &mut Row, less: &Row) {
+    row.iter_mut().zip(less).for_each(|(word, &other)| *word &= !other);
+}
+
 /// The least member of `a` that is in `b` too.
 fn first_common(a: &Row, b: &Row) -> Option<usize> {
     (0..4).find(|&i| a[i] & b[i] != 0).map(|i| 64 * i + (a[i] & b[i]).trailing_zeros() as usize)
@@ -46,8 +52,8 @@ fn members(row: &Row) -> impl Iterator<Item = usize> {
     })
 }
 
-/// Questions 1 to 10. Gives the count of episodes, and marks the links.
-fn read(log: &[u32], links: &mut Matrix) -> Result<usize, Refusal> {
+/// Questions 1 to 10. Gives the counts of episodes and of to words, and marks the links.
+fn read(log: &[u32], links: &mut Matrix) -> Result<Reading, Refusal> {
     let refuse = |number, place| Err(Refusal { number, place });
     let &[head, ref groups @ .., end] = log else {
         return refuse(1, 0);
@@ -97,7 +103,7 @@ fn read(log: &[u32], links: &mut Matrix) -> Result<usize, Refusal> {
     if number(end) as usize != count {
         return refuse(10, last);
     }
-    Ok(n)
+    Ok(Reading { episodes: n, links: count })
 }
 
 /// Warshall's closure, a row at a time. It stays a function of its own: inlined, its time depends on where its loop comes to lie.
@@ -188,7 +194,7 @@ impl<'a> Chains<'a> {
             for a in members(&from) {
                 join(&mut new, &self.ways[a]);
             }
-            new.iter_mut().zip(&self.seen).for_each(|(word, &old)| *word &= !old);
+            cut(&mut new, &self.seen);
             join(&mut self.seen, &new);
             self.layers[level] = new;
             if new == [0; 4] {
@@ -240,9 +246,11 @@ impl<'a> Chains<'a> {
     }
 }
 
-/// Writes the report, and gives the count of its words.
-fn write(links: &[Row], chains: &Chains, out: &mut [u32]) -> usize {
+/// Writes the report from the links and the ways, and gives the count of its words.
+fn write_report(links: &[Row], ways: &[Row], out: &mut [u32]) -> usize {
     let n = links.len();
+    let mut chains = Chains::new(ways);
+    chains.shrink();
     let mut at = 1;
     for v in (0..n).filter(|&v| chains.is_apart(v)) {
         out[at] = 0x5000_0000 | v as u32;
@@ -262,7 +270,7 @@ fn write(links: &[Row], chains: &Chains, out: &mut [u32]) -> usize {
         while chains.next[v] != NONE {
             let target = chains.next[v] as usize;
             while v != target {
-                v = members(&links[v]).find(|&x| x == target || has(&chains.ways[x], target)).expect("there is a way");
+                v = members(&links[v]).find(|&x| x == target || has(&ways[x], target)).expect("there is a way");
                 out[at] = 0x7000_0000 | v as u32;
                 at += 1;
             }
@@ -273,43 +281,80 @@ fn write(links: &[Row], chains: &Chains, out: &mut [u32]) -> usize {
     at + 1
 }
 
-/// The report or a loop, without the clearing of the work words.
-fn solve(log: &[u32], out: &mut [u32], work_words: usize) -> Outcome {
+/// Writes the trimmed copy from the links and the ways, and gives the count of its words.
+fn write_trimmed(links: &[Row], ways: &[Row], out: &mut [u32]) -> usize {
+    out[0] = 0x1000_0000 | links.len() as u32;
+    let mut at = 1;
+    let mut count = 0;
+    for (a, row) in links.iter().enumerate() {
+        let mut implied = [0; 4];
+        members(row).for_each(|b| join(&mut implied, &ways[b]));
+        let mut kept = *row;
+        cut(&mut kept, &implied);
+        if kept == [0; 4] {
+            continue;
+        }
+        out[at] = 0x2000_0000 | a as u32;
+        at += 1;
+        members(&kept).for_each(|b| {
+            out[at] = 0x3000_0000 | b as u32;
+            at += 1;
+            count += 1;
+        });
+    }
+    out[at] = 0xF000_0000 | count;
+    at + 1
+}
+
+/// Writes a loop, and gives its length.
+fn write_loop(steps: &[usize], out: &mut [u32]) -> usize {
+    out[0] = 0x8000_0000 | steps.len() as u32;
+    for (word, &step) in out[1..].iter_mut().zip(steps) {
+        *word = 0x7000_0000 | step as u32;
+    }
+    steps.len()
+}
+
+/// Questions 1 to 13, where 11 asks for the words `needed`; then what `write` makes of the links and the ways. Leaves the buffers
+/// as the library does.
+fn answer(
+    log: &[u32],
+    out: &mut [u32],
+    work: &mut [u32],
+    needed: impl Fn(Reading) -> usize,
+    write: impl Fn(&[Row], &[Row], &mut [u32]) -> usize,
+) -> Result<usize, Refusal> {
     let mut links = [[0; 4]; EPISODES];
-    let n = match read(log, &mut links) {
-        Ok(n) => n,
-        Err(refusal) => return Outcome::Refused(refusal),
-    };
-    if out.len() < report_words(n) {
-        return Outcome::Refused(Refusal { number: 11, place: report_words(n) });
+    let reading = read(log, &mut links)?;
+    let needed = needed(reading);
+    if out.len() < needed {
+        return Err(Refusal { number: 11, place: needed });
     }
-    if work_words < WORK_WORDS {
-        return Outcome::Refused(Refusal { number: 12, place: WORK_WORDS });
+    if work.len() < WORK_WORDS {
+        return Err(Refusal { number: 12, place: WORK_WORDS });
     }
+    let n = reading.episodes;
     let links = &links[..n];
     let mut ways = [[0; 4]; EPISODES];
     let ways = &mut ways[..n];
     ways.copy_from_slice(links);
     close(ways);
-    if let Some(v) = (0..n).find(|&v| has(&ways[v], v)) {
-        let steps = shortest_loop(links, v);
-        out[0] = 0x8000_0000 | steps.len() as u32;
-        for (word, &step) in out[1..].iter_mut().zip(&steps) {
-            *word = 0x7000_0000 | step as u32;
-        }
-        return Outcome::Loop(steps.len());
-    }
-    let mut chains = Chains::new(ways);
-    chains.shrink();
-    Outcome::Report(write(links, &chains, out))
+    let result = match (0..n).find(|&v| has(&ways[v], v)) {
+        Some(v) => Err(Refusal { number: 13, place: write_loop(&shortest_loop(links, v), out) }),
+        None => Ok(write(links, ways, out)),
+    };
+    work[..WORK_WORDS].fill(0);
+    result
 }
 
-/// The report or a loop; leaves the buffers as the library does. It stays a function of its own, so that it can be counted.
+/// The report: its count of words, or a refusal, 13 with a loop. It stays a function of its own, so that it can be counted.
 #[inline(never)]
-pub fn report(log: &[u32], out: &mut [u32], work: &mut [u32]) -> Outcome {
-    let outcome = solve(log, out, work.len());
-    if !matches!(outcome, Outcome::Refused(_)) {
-        work[..WORK_WORDS].fill(0);
-    }
-    outcome
+pub fn report(log: &[u32], out: &mut [u32], work: &mut [u32]) -> Result<usize, Refusal> {
+    answer(log, out, work, |log| report_words(log.episodes), write_report)
+}
+
+/// The trimmed copy, in the same way.
+#[inline(never)]
+pub fn trimmed_copy(log: &[u32], out: &mut [u32], work: &mut [u32]) -> Result<usize, Refusal> {
+    answer(log, out, work, |log| copy_words(log.links), write_trimmed)
 }

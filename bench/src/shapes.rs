@@ -6,12 +6,11 @@ pub type Links = Vec<(usize, usize)>;
 pub const EPISODES: usize = 200;
 pub const WORDS: usize = 4096;
 
-/// A log of full size, with what it is made of.
+/// A log of full size.
 pub struct Shape {
     /// The word by which a command names it.
     pub key: &'static str,
     pub name: &'static str,
-    pub links: Links,
     pub log: Vec<u32>,
 }
 
@@ -140,12 +139,8 @@ pub fn all() -> Vec<Shape> {
         ("long-searches", "long searches", shuffled(7, random(139_996, EPISODES, 176, 1898))),
     ];
     let again = |links: Links| links.iter().copied().cycle().take(WORDS).collect::<Links>();
-    let shape = |(key, name, links)| {
-        let links = again(links);
-        Shape { key, name, log: log_of(EPISODES, &links), links }
-    };
+    let shape = |(key, name, links)| Shape { key, name, log: log_of(EPISODES, &again(links)) };
     let mut shapes: Vec<Shape> = shapes.into_iter().map(shape).collect();
-    let links = night();
-    shapes.push(Shape { key: "night", name: "a night of nine sleepers", log: grouped_log_of(EPISODES, &links), links });
+    shapes.push(Shape { key: "night", name: "a night of nine sleepers", log: grouped_log_of(EPISODES, &night()) });
     shapes
 }

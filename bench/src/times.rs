@@ -1,30 +1,33 @@
 //! Times of the library and of the plain program, in one run. A round calls both on each log in turn; which of the two is first
 //! changes from round to round.
 
-use crate::plain;
-use crate::reports;
-use crate::shapes::{self, EPISODES, Links, WORDS, log_of, random};
+use crate::checks;
+use crate::services::{REPORT, Service, TRIMMED_COPY};
+use crate::shapes::{self, EPISODES, WORDS, log_of, random};
 use std::hint::black_box;
 use std::time::Instant;
-use zohapy::{WORK_WORDS, report_words};
+use zohapy::{Reading, WORK_WORDS};
 
 /// A row of a table.
 struct Row {
     name: String,
     words: usize,
     width: usize,
+    /// How many links the trimmed copy keeps.
+    kept: usize,
     log: Vec<u32>,
 }
 
 impl Row {
-    /// The reports of both programs are checked here.
-    fn new(name: String, episodes: usize, links: &Links, log: Vec<u32>) -> Self {
-        Row { name, words: links.len(), width: reports::check(episodes, links, &log), log }
+    /// The answers of both programs are checked here.
+    fn new(name: String, log: Vec<u32>) -> Self {
+        let words = checks::figures(&log).links;
+        let (width, kept) = (checks::check_report(&log), checks::check_trimmed(&log));
+        Row { name, words, width, kept, log }
     }
 
     fn random(name: String, episodes: usize, words: usize) -> Self {
-        let links = random(2, episodes, episodes, words);
-        Row::new(name, episodes, &links, log_of(episodes, &links))
+        Row::new(name, log_of(episodes, &random(2, episodes, episodes, words)))
     }
 }
 
@@ -48,15 +51,15 @@ fn microseconds<T>(call: impl FnOnce() -> T) -> f64 {
     start.elapsed().as_nanos() as f64 / 1000.0
 }
 
-fn measure(rows: &[&Row], rounds: usize) -> Vec<Times> {
-    let mut out = vec![0; report_words(EPISODES)];
+fn measure(service: &Service, rows: &[&Row], rounds: usize) -> Vec<Times> {
+    let mut out = vec![0; (service.needed)(Reading { episodes: EPISODES, links: WORDS })];
     let mut work = vec![0; WORK_WORDS];
     let mut all: Vec<Times> = rows.iter().map(|_| Times::default()).collect();
     for round in 0..rounds {
         for (row, Times(times)) in rows.iter().zip(&mut all) {
             let log = black_box(row.log.as_slice());
             for program in [round % 2, (round + 1) % 2] {
-                let call = [zohapy::report, plain::report][program];
+                let call = service.calls[program];
                 let (out, work) = (black_box(&mut out), black_box(&mut work));
                 times[program].push(microseconds(|| call(log, out, work)));
             }
@@ -65,17 +68,27 @@ fn measure(rows: &[&Row], rounds: usize) -> Vec<Times> {
     all
 }
 
-fn print_row(row: &Row, Times([library, plain]): &Times) {
-    println!(
-        "| {} | {} | {} | {:.1} | {:.1} | {:.2} | {:.2} |",
-        row.name,
-        row.words,
-        row.width,
-        middle(library),
-        middle(plain),
-        middle(library) / middle(plain),
-        least(library) / least(plain)
-    );
+/// Prints a table. Behind the to words stands one more figure of each row.
+fn print_table<'a>(
+    first: &str,
+    (third, figure): (&str, fn(&Row) -> usize),
+    rows: &[Row],
+    times: impl Iterator<Item = &'a Times>,
+) {
+    println!("\n| {first} | to words | {third} | library | plain | ratio | ratio of the least |");
+    println!("|---|---|---|---|---|---|---|");
+    for (row, Times([library, plain])) in rows.iter().zip(times) {
+        println!(
+            "| {} | {} | {} | {:.1} | {:.1} | {:.2} | {:.2} |",
+            row.name,
+            row.words,
+            figure(row),
+            middle(library),
+            middle(plain),
+            middle(library) / middle(plain),
+            least(library) / least(plain)
+        );
+    }
 }
 
 /// The time of the clearing of the work words, which both programs do.
@@ -88,7 +101,7 @@ fn clearing(rounds: usize) -> f64 {
 /// The tables: what their first column is, and their rows.
 fn tables() -> [(&'static str, Vec<Row>); 3] {
     let shapes = shapes::all().into_iter();
-    let shapes = shapes.map(|shape| Row::new(shape.name.into(), EPISODES, &shape.links, shape.log));
+    let shapes = shapes.map(|shape| Row::new(shape.name.into(), shape.log));
     let words = |n: usize| WORDS * n * (n - 1) / (EPISODES * (EPISODES - 1));
     let sizes = [25, 50, 100, 200].map(|n| Row::random(n.to_string(), n, words(n)));
     let counts = [512, 1024, 2048, 4096].map(|count| Row::random(EPISODES.to_string(), EPISODES, count));
@@ -101,16 +114,18 @@ fn tables() -> [(&'static str, Vec<Row>); 3] {
 
 /// Prints the tables of times.
 pub fn print(rounds: usize) {
-    reports::check_small();
+    checks::check_small();
     let tables = tables();
     let rows: Vec<&Row> = tables.iter().flat_map(|table| &table.1).collect();
-    let all = measure(&rows, rounds);
+    let all = measure(&REPORT, &rows, rounds);
     println!("Microseconds, the middle of {rounds} rounds; the ratio is library / plain.");
     println!("The clearing of the work words, which both do, takes {:.1} of them.", clearing(rounds));
     let mut times = all.iter();
     for (first, rows) in &tables {
-        println!("\n| {first} | to words | width | library | plain | ratio | ratio of the least |");
-        println!("|---|---|---|---|---|---|---|");
-        rows.iter().zip(&mut times).for_each(|(row, times)| print_row(row, times));
+        print_table(first, ("width", |row| row.width), rows, &mut times);
     }
+    println!("\nThe same for the trimmed copy.");
+    let (first, shapes) = &tables[0];
+    let times = measure(&TRIMMED_COPY, &shapes.iter().collect::<Vec<_>>(), rounds);
+    print_table(first, ("links kept", |row| row.kept), shapes, times.iter());
 }
