@@ -6,7 +6,7 @@ use crate::checks::{Check, Checked, Disagreement, Found};
 use crate::counts::{Asked, Counts, OutLength, Service, Shape, WorkLength};
 use crate::lent::{Filling, LONGEST, Lent};
 use crate::random::Random;
-use crate::reference::{Graph, Parts, Refusal, Settled, Subject, WORK, copy_need, lent, report_need};
+use crate::reference::{Graph, Parts, Passed, Refusal, Subject, WORK, copy_need, lent, report_need};
 use crate::services::{Answer, Door, ReadAnswer, Services, ThreadAnswer};
 
 pub struct Caller<S> {
@@ -31,6 +31,14 @@ pub enum Gave {
 
 /// What a fair copy call gave: the copy's words, or number and place.
 pub type Copied = Result<Vec<u32>, (u32, usize)>;
+
+/// What a trimmed copy call gave: number and place, the loop's words, or the copy's.
+#[derive(Debug, PartialEq, Eq)]
+pub enum Trimmed {
+    Refused(u32, usize),
+    Loop(Vec<u32>),
+    Copy(Vec<u32>),
+}
 
 /// Lengths of the two buffers that a call writes to.
 #[derive(Clone, Copy)]
@@ -187,42 +195,36 @@ impl<S: Services> Caller<S> {
         let mut found = Found::default();
         if !self.bare {
             self.ask_kept(&mut found);
-            let need = subject.reading.map(|(n, _)| report_need(n));
-            match (need.and_then(|need| lent(need, lengths.out, lengths.work)), &subject.passed) {
-                (Err(refusal), _) => self.ask_refused(answer, refusal, &mut found),
-                (Ok(()), Some((graph, Settled::Loop, _))) => {
-                    found.ask(Check::Number, answer.number == 13, || format!("number {} instead of 13", answer.number));
-                    if answer.number == 13 {
-                        self.ask_loop(answer.value, graph, &mut found);
-                    }
-                }
-                (Ok(()), Some((graph, Settled::Furthest(furthest), _))) => {
-                    found.ask(Check::Number, answer.number == 0, || format!("refused {} at {}", answer.number, answer.value));
-                    if answer.number == 0 {
-                        self.ask_report(answer.value, graph, furthest, &mut found);
-                    }
-                }
-                (Ok(()), None) => unreachable!("a log that passes has a graph"),
+            match passed(subject, |n, _| report_need(n), lengths) {
+                Err(refusal) => self.ask_refused(answer, refusal, &mut found),
+                Ok(passed) => match passed.furthest() {
+                    None => self.ask_loop(answer, &passed.graph, &mut found),
+                    Some(furthest) => self.ask_report(answer, &passed.graph, furthest, &mut found),
+                },
             }
         }
-        let gave = self.gave(answer);
+        let gave = match answer.number {
+            0 => {
+                let words = self.written(answer.value);
+                checkers::layout(&words).map_or(Gave::Refused(0, 0), |shown| Gave::Report(shown, words))
+            }
+            13 => Gave::Loop(self.written(answer.value.saturating_add(1))),
+            number => Gave::Refused(number, answer.value),
+        };
         self.judge("report", || self.three_lengths(), found)?;
         Ok(gave)
     }
 
-    fn gave(&self, answer: Answer) -> Gave {
-        let words = |count: usize| self.out.lent()[..count.min(self.out.len())].to_vec();
-        match answer.number {
-            0 => {
-                let words = words(answer.value);
-                checkers::layout(&words).map_or(Gave::Refused(0, 0), |shown| Gave::Report(shown, words))
-            }
-            13 => Gave::Loop(words(answer.value.saturating_add(1))),
-            number => Gave::Refused(number, answer.value),
-        }
+    /// The first words of the output.
+    fn written(&self, count: usize) -> Vec<u32> {
+        self.out.lent()[..count.min(self.out.len())].to_vec()
     }
 
-    fn ask_loop(&self, length: usize, graph: &Graph, found: &mut Found) {
+    fn ask_loop(&self, answer: Answer, graph: &Graph, found: &mut Found) {
+        let Answer { number, value: length } = answer;
+        if number != 13 {
+            return found.say(Check::Number, || format!("number {number} instead of 13"));
+        }
         if length >= self.out.len() {
             return found.say(Check::Loop, || format!("a loop of {length} in {} words", self.out.len()));
         }
@@ -237,7 +239,11 @@ impl<S: Services> Caller<S> {
         self.ask_left(length + 1, found);
     }
 
-    fn ask_report(&self, count: usize, graph: &Graph, furthest: &[usize], found: &mut Found) {
+    fn ask_report(&self, answer: Answer, graph: &Graph, furthest: &[usize], found: &mut Found) {
+        if !ask_given(answer, found) {
+            return;
+        }
+        let count = answer.value;
         if count > self.out.len() {
             return found.say(Check::Layout, || format!("a report of {count} words in {}", self.out.len()));
         }
@@ -256,30 +262,56 @@ impl<S: Services> Caller<S> {
         let mut found = Found::default();
         if !self.bare {
             self.ask_kept(&mut found);
-            let need = subject.reading.map(|(_, t)| copy_need(t));
-            match (need.and_then(|need| lent(need, lengths.out, lengths.work)), &subject.passed) {
-                (Err(refusal), _) => self.ask_refused(answer, refusal, &mut found),
-                (Ok(()), Some((_, _, copy))) => {
-                    found.ask(Check::Number, answer.number == 0, || format!("refused {} at {}", answer.number, answer.value));
-                    if answer.number == 0 {
-                        let count = copy.len();
-                        found.ask(Check::Values, answer.value == count, || format!("{} words instead of {count}", answer.value));
-                        found.ask(Check::FairCopy, self.out.lent()[..count] == copy[..], || {
-                            let place = copy.iter().zip(self.out.lent()).position(|(a, b)| a != b).expect("a word differs");
-                            format!("word {place} is {:08X} instead of {:08X}", self.out.lent()[place], copy[place])
-                        });
-                        self.ask_left(count, &mut found);
-                    }
-                }
-                (Ok(()), None) => unreachable!("a log that passes has a graph"),
+            match passed(subject, |_, t| copy_need(t), lengths) {
+                Err(refusal) => self.ask_refused(answer, refusal, &mut found),
+                Ok(passed) => self.ask_copy(Check::FairCopy, answer, &passed.graph.fair_copy(), &mut found),
             }
         }
         let copy = match answer.number {
-            0 => Ok(self.out.lent()[..answer.value.min(self.out.len())].to_vec()),
+            0 => Ok(self.written(answer.value)),
             number => Err((number, answer.value)),
         };
         self.judge("fair_copy", || self.three_lengths(), found)?;
         Ok(copy)
+    }
+
+    pub fn trimmed_copy(&mut self, subject: &Subject, lengths: Lengths, random: &mut Random) -> Checked<Trimmed> {
+        self.lend(subject, lengths, random);
+        let door = self.door(random);
+        let answer = self.services.trimmed_copy(door, &mut self.log, &mut self.out, &mut self.work);
+        self.count(Service::TrimmedCopy, answer.number, subject);
+        let mut found = Found::default();
+        if !self.bare {
+            self.ask_kept(&mut found);
+            match passed(subject, |_, t| copy_need(t), lengths) {
+                Err(refusal) => self.ask_refused(answer, refusal, &mut found),
+                Ok(passed) => match passed.trimmed_copy() {
+                    None => self.ask_loop(answer, &passed.graph, &mut found),
+                    Some(copy) => self.ask_copy(Check::TrimmedCopy, answer, copy, &mut found),
+                },
+            }
+        }
+        let trimmed = match answer.number {
+            0 => Trimmed::Copy(self.written(answer.value)),
+            13 => Trimmed::Loop(self.written(answer.value.saturating_add(1))),
+            number => Trimmed::Refused(number, answer.value),
+        };
+        self.judge("trimmed_copy", || self.three_lengths(), found)?;
+        Ok(trimmed)
+    }
+
+    /// A copy: the answer, its words, and what is left.
+    fn ask_copy(&self, check: Check, answer: Answer, copy: &[u32], found: &mut Found) {
+        if !ask_given(answer, found) {
+            return;
+        }
+        let (count, out) = (copy.len(), self.out.lent());
+        found.ask(Check::Values, answer.value == count, || format!("{} words instead of {count}", answer.value));
+        found.ask(check, out[..count] == *copy, || {
+            let place = copy.iter().zip(out).position(|(a, b)| a != b).expect("a word differs");
+            format!("word {place} is {:08X} instead of {:08X}", out[place], copy[place])
+        });
+        self.ask_left(count, found);
     }
 
     /// Asks for each of the threads `wanted` of the same words. Their steps come back, or the refusal's number.
@@ -320,6 +352,19 @@ impl<S: Services> Caller<S> {
     fn three_lengths(&self) -> String {
         format!("log {} words, output {}, work {}", self.log.len(), self.out.len(), self.work.len())
     }
+}
+
+/// Questions 1 to 12, for a call that needs so many output words for n episodes and t to words.
+fn passed(subject: &Subject, need: fn(usize, usize) -> usize, lengths: Lengths) -> Result<&Passed, Refusal> {
+    let (n, t) = subject.reading?;
+    lent(need(n, t), lengths.out, lengths.work)?;
+    Ok(subject.passed.as_ref().expect("a log that passes has a graph"))
+}
+
+/// Whether a report or a copy was given; it must have been.
+fn ask_given(answer: Answer, found: &mut Found) -> bool {
+    found.ask(Check::Number, answer.number == 0, || format!("refused {} at {}", answer.number, answer.value));
+    answer.number == 0
 }
 
 fn ask_refusal(number: u32, place: usize, refusal: Refusal, found: &mut Found) {

@@ -1,28 +1,34 @@
 //! Logs that were worked through by hand, with the exact answers; and all logs of at most three episodes.
 
-use crate::calls::{Caller, Gave, Lengths};
+use crate::calls::{Caller, Gave, Lengths, Trimmed};
 use crate::checks::{Check, Checked, Disagreement};
 use crate::counts::Asked;
 use crate::random::Random;
 use crate::reference::{Subject, WORK, parts};
 use crate::services::{ReadAnswer, Services};
-use crate::words::{HEAD, TO, hex, log, word};
+use crate::words::{HEAD, LOOP, STEP, TO, hex, log, word};
 
 /// Words as they are written: hexadecimal, spaces between them.
 fn words(text: &str) -> Vec<u32> {
     text.split_whitespace().map(|word| u32::from_str_radix(word, 16).expect("a word has eight figures")).collect()
 }
 
+const EMPTY: &str = "10000000 F0000000";
+const ALONE: &str = "100000C8 F0000000";
+const TWICE: &str = "10000002 20000000 30000001 30000001 F0000002";
 const WHOLE: &str = "10000005 20000000 30000001 20000002 30000003 F0000002";
 const WHOLE_REPORT: &str = "40000003 50000001 50000003 50000004 60000002 70000000 70000001 60000002 70000002 70000003 \
      60000001 70000004 F000000C";
 const SHARED: &str = "10000005 20000000 30000002 20000001 30000002 20000002 30000003 30000004 F0000004";
 const DIAMOND: &str = "10000004 20000000 30000001 30000002 20000001 30000003 20000002 30000003 F0000004";
+/// 0-1, 1-2 and 0-2.
+const BESIDE: &str = "10000003 20000000 30000001 20000001 30000002 20000000 30000002 F0000003";
 const AROUND: &str = "10000002 20000000 30000001 20000001 30000000 F0000002";
+const ITSELF: &str = "10000001 20000000 30000000 F0000001";
 
 /// Logs with their reports. Where the cover is free, all that there can be are listed.
 const REPORTS: [(&str, &[&str]); 9] = [
-    ("10000000 F0000000", &["40000000 F0000001"]),
+    (EMPTY, &["40000000 F0000001"]),
     ("10000001 F0000000", &["40000001 50000000 60000001 70000000 F0000004"]),
     (WHOLE, &[WHOLE_REPORT]),
     (
@@ -32,10 +38,7 @@ const REPORTS: [(&str, &[&str]); 9] = [
             "40000002 50000003 50000004 60000003 70000001 70000002 70000003 60000003 70000000 70000002 70000004 F000000B",
         ],
     ),
-    (
-        "10000003 20000000 30000001 20000001 30000002 20000000 30000002 F0000003",
-        &["40000001 50000002 60000003 70000000 70000001 70000002 F0000006"],
-    ),
+    (BESIDE, &["40000001 50000002 60000003 70000000 70000001 70000002 F0000006"]),
     (
         DIAMOND,
         &[
@@ -50,7 +53,7 @@ const REPORTS: [(&str, &[&str]); 9] = [
             "40000002 50000001 50000002 60000003 70000000 70000001 70000003 60000003 70000000 70000002 70000003 F000000B",
         ],
     ),
-    ("10000002 20000000 30000001 30000001 F0000002", &["40000001 50000001 60000002 70000000 70000001 F0000005"]),
+    (TWICE, &["40000001 50000001 60000002 70000000 70000001 F0000005"]),
     // Apart means "no way": 0 and 2 are not apart here, though no link joins them.
     (
         "10000003 20000000 30000001 20000001 30000002 F0000002",
@@ -66,7 +69,7 @@ const REPORTS: [(&str, &[&str]); 9] = [
 /// Logs with the loops that they can show.
 const LOOPS: [(&str, &[&str]); 4] = [
     (AROUND, &["80000002 70000000 70000001"]),
-    ("10000001 20000000 30000000 F0000001", &["80000001 70000000"]),
+    (ITSELF, &["80000001 70000000"]),
     ("10000004 20000003 30000001 20000001 30000002 20000002 30000003 F0000003", &["80000003 70000001 70000002 70000003"]),
     (
         "10000003 20000002 30000002 20000001 30000000 20000000 30000001 F0000003",
@@ -106,8 +109,8 @@ const REFUSALS: [(&str, u32, usize); 26] = [
 
 /// Logs with their fair copies.
 const COPIES: [(&str, &str); 6] = [
-    ("10000000 F0000000", "10000000 F0000000"),
-    ("100000C8 F0000000", "100000C8 F0000000"),
+    (EMPTY, EMPTY),
+    (ALONE, ALONE),
     (WHOLE, WHOLE),
     (
         "10000003 20000002 30000000 20000000 30000002 30000001 30000002 F0000004",
@@ -118,6 +121,53 @@ const COPIES: [(&str, &str); 6] = [
         "10000002 20000001 30000001 30000000 20000000 30000001 F0000003",
         "10000002 20000000 30000001 20000001 30000000 30000001 F0000003",
     ),
+];
+
+/// Logs with their trimmed copies.
+const TRIMMED: [(&str, &str); 14] = [
+    (EMPTY, EMPTY),
+    (ALONE, ALONE),
+    (WHOLE, WHOLE),
+    (SHARED, SHARED),
+    (BESIDE, "10000003 20000000 30000001 20000001 30000002 F0000002"),
+    (DIAMOND, DIAMOND),
+    // The diamond with 0-3, its groups and to words falling.
+    ("10000004 20000002 30000003 20000001 30000003 20000000 30000003 30000002 30000001 F0000005", DIAMOND),
+    (TWICE, "10000002 20000000 30000001 F0000001"),
+    ("10000002 20000000 30000001 20000000 30000001 F0000002", "10000002 20000000 30000001 F0000001"),
+    // A path of three links beside 0-3, and one of four beside 4-0.
+    (
+        "10000004 20000000 30000001 20000001 30000002 20000002 30000003 20000000 30000003 F0000004",
+        "10000004 20000000 30000001 20000001 30000002 20000002 30000003 F0000003",
+    ),
+    (
+        "10000005 20000004 30000000 30000003 20000001 30000000 20000002 30000001 20000003 30000002 F0000005",
+        "10000005 20000001 30000000 20000002 30000001 20000003 30000002 20000004 30000003 F0000004",
+    ),
+    // 0-2 twice, once in the group of 0-1 and once behind 1-2: the path over 1 leads round both.
+    (
+        "10000003 20000000 30000002 30000001 20000001 30000002 20000000 30000002 F0000004",
+        "10000003 20000000 30000001 20000001 30000002 F0000002",
+    ),
+    // All links that go to higher numbers: only those to the next stay.
+    (
+        "10000004 20000000 30000001 30000002 30000003 20000001 30000002 30000003 20000002 30000003 F0000006",
+        "10000004 20000000 30000001 20000001 30000002 20000002 30000003 F0000003",
+    ),
+    // 0-3 is implied over 1 and over 2, 2-5 over 3 and over 4; 1-4 is not.
+    (
+        "10000006 20000000 30000001 30000002 30000003 20000001 30000003 30000004 20000002 30000003 30000004 30000005 \
+         20000003 30000005 20000004 30000005 F000000A",
+        "10000006 20000000 30000001 30000002 20000001 30000003 30000004 20000002 30000003 30000004 20000003 30000005 \
+         20000004 30000005 F0000008",
+    ),
+];
+
+/// Logs that need so many words for their trimmed copy, lent exactly these, and the loops that they show.
+const FITTING_LOOPS: [(&str, usize, &str); 3] = [
+    (ITSELF, 4, "80000001 70000000"),
+    ("100000C8 20000005 30000005 F0000001", 4, "80000001 70000005"),
+    (AROUND, 6, "80000002 70000000 70000001"),
 ];
 
 /// Words, a number i, and what asking for thread i gives.
@@ -155,9 +205,10 @@ fn refused<S: Services>(caller: &mut Caller<S>, words: Vec<u32>, due: (u32, usiz
     }
     report_refused(caller, &subject, PLENTY, due, random)?;
     match caller.fair_copy(&subject, PLENTY, random)? {
-        Err(said) if said == due => Ok(()),
-        said => differ("fair_copy", &subject.words, format!("{said:?} instead of {due:?}")),
+        Err(said) if said == due => {}
+        said => return differ("fair_copy", &subject.words, format!("{said:?} instead of {due:?}")),
     }
+    trimmed_as(caller, &subject, PLENTY, &Trimmed::Refused(due.0, due.1), random)
 }
 
 fn report_refused<S: Services>(
@@ -172,6 +223,20 @@ fn report_refused<S: Services>(
         Gave::Refused(number, place) => differ("report", &subject.words, format!("{number} at {place} instead of {due:?}")),
         _ => differ("report", &subject.words, format!("it passes instead of {due:?}")),
     }
+}
+
+fn trimmed_as<S: Services>(
+    caller: &mut Caller<S>,
+    subject: &Subject,
+    lengths: Lengths,
+    due: &Trimmed,
+    random: &mut Random,
+) -> Checked<()> {
+    let said = caller.trimmed_copy(subject, lengths, random)?;
+    if said != *due {
+        return differ("trimmed_copy", &subject.words, format!("{said:X?} instead of {due:X?}"));
+    }
+    Ok(())
 }
 
 fn read_as<S: Services>(caller: &mut Caller<S>, subject: &Subject, n: usize, t: usize, random: &mut Random) -> Checked<()> {
@@ -203,6 +268,14 @@ pub fn all<S: Services>(caller: &mut Caller<S>) -> Checked<()> {
             Gave::Loop(said) => return differ("report", &subject.words, format!("the loop is {}", hex(&said))),
             _ => return differ("report", &subject.words, "it has a loop".into()),
         }
+        match caller.trimmed_copy(&subject, PLENTY, random)? {
+            Trimmed::Loop(said) if loops.iter().any(|one| words(one) == said) => {}
+            said => return differ("trimmed_copy", &subject.words, format!("{said:X?}, but it has a loop")),
+        }
+    }
+    for (log, out, shown) in FITTING_LOOPS {
+        let lengths = Lengths { out, work: WORK };
+        trimmed_as(caller, &Subject::new(words(log)), lengths, &Trimmed::Loop(words(shown)), random)?;
     }
     for (log, number, place) in REFUSALS {
         refused(caller, words(log), (number, place), random)?;
@@ -213,6 +286,9 @@ pub fn all<S: Services>(caller: &mut Caller<S>) -> Checked<()> {
         if said.as_ref() != Ok(&words(copy)) {
             return differ("fair_copy", &subject.words, format!("{said:X?} instead of {copy}"));
         }
+    }
+    for (log, copy) in TRIMMED {
+        trimmed_as(caller, &Subject::new(words(log)), PLENTY, &Trimmed::Copy(words(copy)), random)?;
     }
     for (given, i, due) in THREADS {
         let given = words(given);
@@ -232,22 +308,33 @@ fn short_buffers<S: Services>(caller: &mut Caller<S>, random: &mut Random) -> Ch
         ("10000001 F0000000", 4, WORK, (11, 5)),
         ("10000001 F0000000", 4, 0, (11, 5)),
         ("10000001 F0000000", 5, WORK - 1, (12, 16_384)),
-        ("10000000 F0000000", 1, WORK, (11, 2)),
+        (EMPTY, 1, WORK, (11, 2)),
         (WHOLE, 20, WORK, (11, 21)),
         (AROUND, 7, WORK, (11, 8)),
-        ("100000C8 F0000000", 10_501, WORK, (11, 10_502)),
+        (ALONE, 10_501, WORK, (11, 10_502)),
     ];
     for (log, out, work, due) in reports {
         report_refused(caller, &Subject::new(words(log)), Lengths { out, work }, due, random)?;
     }
-    let copies =
-        [(WHOLE, 5, WORK, (11, 6)), ("10000002 20000000 30000001 30000001 F0000002", 5, 0, (11, 6)), (WHOLE, 6, 0, (12, 16_384))];
+    let copies = [
+        (WHOLE, 5, WORK, (11, 6)),
+        (TWICE, 5, 0, (11, 6)),
+        (WHOLE, 6, 0, (12, 16_384)),
+        (EMPTY, 1, WORK, (11, 2)),
+        (BESIDE, 7, WORK, (11, 8)),
+        (BESIDE, 8, WORK - 1, (12, 16_384)),
+    ];
     for (log, out, work, due) in copies {
         let subject = Subject::new(words(log));
         let said = caller.fair_copy(&subject, Lengths { out, work }, random)?;
         if said != Err(due) {
             return differ("fair_copy", &subject.words, format!("{said:X?} instead of {due:?}"));
         }
+    }
+    // Questions 11 and 12 come before 13.
+    let looped = [(ITSELF, 3, WORK, (11, 4)), (AROUND, 5, 0, (11, 6)), (ITSELF, 4, WORK - 1, (12, 16_384))];
+    for (log, out, work, due) in copies.into_iter().chain(looped) {
+        trimmed_as(caller, &Subject::new(words(log)), Lengths { out, work }, &Trimmed::Refused(due.0, due.1), random)?;
     }
     Ok(())
 }
@@ -269,12 +356,25 @@ fn at_the_ceilings<S: Services>(caller: &mut Caller<S>, random: &mut Random) -> 
             Gave::Report(_, said) if said == words("40000001 50000001 60000002 70000000 70000001 F0000005") => {}
             _ => return differ("report", &full.words, "the report is that of one link".into()),
         }
-        if caller.fair_copy(&full, PLENTY, random)? != Ok(words("10000002 20000000 30000001 F0000001")) {
+        let once = words("10000002 20000000 30000001 F0000001");
+        if caller.fair_copy(&full, PLENTY, random)?.as_ref() != Ok(&once) {
             return differ("fair_copy", &full.words, "the copy has one link".into());
         }
+        trimmed_as(caller, &full, PLENTY, &Trimmed::Copy(once), random)?;
         refused(caller, log(2, &[(0, 1); 4_097], splits, random), (8, place), random)?;
     }
-    Ok(())
+    // Links to the next of 200 episodes, to the one behind it, and so on to 4,096: the links to the next stay.
+    let steps = (1..200).flat_map(|step| (0..200 - step).map(move |v| (v, v + step)));
+    let most: Vec<_> = steps.take(4_096).collect();
+    let chain = log(200, &most[..199], 0, random);
+    let exact = Lengths { out: 8_194, work: WORK };
+    trimmed_as(caller, &Subject::new(log(200, &most, 0, random)), exact, &Trimmed::Copy(chain.clone()), random)?;
+    trimmed_as(caller, &Subject::new(chain.clone()), Lengths { out: 400, work: WORK }, &Trimmed::Copy(chain), random)?;
+    // One loop of all 200, in exactly the words that are needed.
+    let round: Vec<_> = (0..200).map(|v| (v, (v + 1) % 200)).collect();
+    let shown = std::iter::once(word(LOOP, 200)).chain((0..200).map(|v| word(STEP, v))).collect();
+    let exact = Lengths { out: 402, work: WORK };
+    trimmed_as(caller, &Subject::new(log(200, &round, 0, random)), exact, &Trimmed::Loop(shown), random)
 }
 
 /// Every set of links on at most three episodes.
@@ -285,6 +385,7 @@ fn at_most_three<S: Services>(caller: &mut Caller<S>, random: &mut Random) -> Ch
             let subject = Subject::new(log(n, &links, 0, random));
             caller.read(&subject, random)?;
             let _ = caller.fair_copy(&subject, PLENTY, random)?;
+            let _ = caller.trimmed_copy(&subject, PLENTY, random)?;
             if let Gave::Report(_, said) = caller.report(&subject, PLENTY, random)? {
                 caller.threads(&said, &parts(&said), &[0, 1, 2, 3], Asked::Whole, random)?;
             }

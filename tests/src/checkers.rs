@@ -1,8 +1,8 @@
-//! The checkers of what is free: a report's parts and a loop. They take the graph and what is expected, and nothing
-//! from the library.
+//! The checkers of what is free, a report's parts and a loop, and of the ways of a trimmed copy. They take the graph and
+//! what is expected, and nothing from the library.
 
 use crate::checks::{Check, Found};
-use crate::reference::Graph;
+use crate::reference::{Graph, in_order};
 use crate::words::{APART, END, LOOP, STEP, THREAD, WIDTH, kind, number};
 
 /// A report taken apart, by the kinds of its words alone.
@@ -78,7 +78,8 @@ fn not_apart(members: &[usize], graph: &Graph) -> Option<String> {
     None
 }
 
-fn no_cover(threads: &[Vec<usize>], graph: &Graph) -> Option<String> {
+/// What keeps the threads from being a cover.
+pub fn no_cover(threads: &[Vec<usize>], graph: &Graph) -> Option<String> {
     let mut held = vec![false; graph.n];
     for (i, thread) in threads.iter().enumerate() {
         if thread.is_empty() {
@@ -128,4 +129,24 @@ pub fn not_a_loop(steps: &[usize], graph: &Graph) -> Option<String> {
         return Some(format!("{} is not linked to {}", pair[0], pair[1]));
     }
     (!graph.linked(last, first)).then(|| format!("{last} is not linked to {first}"))
+}
+
+/// What keeps the words from being a log with the episodes and the ways of the graph, without repeats and without loops.
+pub fn no_same_ways(words: &[u32], graph: &Graph) -> Option<String> {
+    let (n, t) = match in_order(words) {
+        Ok(read) => read,
+        Err(refusal) => return Some(format!("the trimmed copy is refused {} at {}", refusal.number, refusal.place)),
+    };
+    let copy = Graph::of(words);
+    if n != graph.n {
+        return Some(format!("{n} episodes instead of {}", graph.n));
+    }
+    if copy.links.len() != t {
+        return Some(format!("{t} to words for {} links", copy.links.len()));
+    }
+    if copy.has_loop() {
+        return Some("the trimmed copy has a loop".into());
+    }
+    let other = (0..n).find(|&v| copy.ways_from(v) != graph.ways_from(v))?;
+    Some(format!("{other} has other ways in the trimmed copy"))
 }

@@ -13,7 +13,15 @@ macro_rules! counted {
     };
 }
 
-counted! { Service { Read = "read", Report = "report", FairCopy = "fair_copy", Thread = "thread", } }
+counted! {
+    Service {
+        Read = "read",
+        Report = "report",
+        FairCopy = "fair_copy",
+        TrimmedCopy = "trimmed_copy",
+        Thread = "thread",
+    }
+}
 
 counted! {
     /// The shapes of logs.
@@ -97,17 +105,28 @@ counted! {
         LinkMore = "a link more",
         EpisodeMore = "an episode more",
         OwnThreads = "threads of its own report",
+        SameOutcome = "same outcome of report and trimmed copy",
+        Damaged = "same outcome, a damaged log",
+        TrimmedOfCopies = "trimmed copy of copies",
+        TrimmedRead = "trimmed copy read and reported on",
+        SameWays = "same ways, other links",
+        WayMore = "a way more",
+        WayFewer = "a way fewer",
+        TrimmedEpisode = "an episode more, trimmed",
     }
 }
+
+const SERVICES: usize = Service::NAMES.len();
 
 /// One more than the largest refusal number.
 const NUMBERS: usize = 18;
 
 /// The answers that each service can give, all of which have to be met.
-const MUST: [&[usize]; 4] = [
+const MUST: [&[usize]; SERVICES] = [
     &[0, 1, 2, 3, 4, 5, 6, 7, 8, 9, 10],
     &[0, 1, 2, 3, 4, 5, 6, 7, 8, 9, 10, 11, 12, 13],
     &[0, 1, 2, 3, 4, 5, 6, 7, 8, 9, 10, 11, 12],
+    &[0, 1, 2, 3, 4, 5, 6, 7, 8, 9, 10, 11, 12, 13],
     &[0, 16, 17],
 ];
 
@@ -115,7 +134,7 @@ const MUST: [&[usize]; 4] = [
 pub struct Counts {
     pub calls: u64,
     pub rounds: u64,
-    numbers: [[u64; NUMBERS]; 4],
+    numbers: [[u64; NUMBERS]; SERVICES],
     lists: [(&'static str, &'static [&'static str], Vec<u64>); 8],
 }
 
@@ -125,7 +144,7 @@ impl Counts {
         Counts {
             calls: 0,
             rounds: 0,
-            numbers: [[0; NUMBERS]; 4],
+            numbers: [[0; NUMBERS]; SERVICES],
             lists: [
                 list("calls by shape of log", Shape::NAMES),
                 list("calls by size of a log that passes", Size::NAMES),
@@ -212,17 +231,19 @@ impl Counts {
     }
 
     pub fn print(&self) {
+        let row = |name: &str, cell: &dyn Fn(usize) -> String| {
+            let cells: String = (0..SERVICES).map(|service| format!(" {:>12}", cell(service))).collect();
+            println!("{name:>8}{cells}");
+        };
         println!("answers by service; 0 is no refusal");
-        println!("{:>8} {:>12} {:>12} {:>12} {:>12}", "number", "read", "report", "fair_copy", "thread");
+        row("number", &|service| Service::NAMES[service].into());
         for number in (0..NUMBERS).filter(|number| MUST.iter().any(|must| must.contains(number))) {
-            let of = |service: usize| {
+            row(&number.to_string(), &|service| {
                 let count = self.numbers[service][number];
                 if count == 0 && !MUST[service].contains(&number) { "-".into() } else { grouped(count) }
-            };
-            println!("{number:>8} {:>12} {:>12} {:>12} {:>12}", of(0), of(1), of(2), of(3));
+            });
         }
-        let sum = |service: usize| grouped(self.numbers[service].iter().sum());
-        println!("{:>8} {:>12} {:>12} {:>12} {:>12}", "all", sum(0), sum(1), sum(2), sum(3));
+        row("all", &|service| grouped(self.numbers[service].iter().sum()));
         for (title, names, counts) in &self.lists {
             println!("{title}");
             for (name, count) in names.iter().zip(counts) {

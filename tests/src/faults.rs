@@ -2,7 +2,7 @@
 
 use crate::checkers::{self, Shown};
 use crate::lent::Lent;
-use crate::reference::{Graph, WORK, in_order, parts, report_need};
+use crate::reference::{Graph, WORK, copy_need, in_order, links, parts, report_need};
 use crate::services::{Answer, Door, Library, ReadAnswer, Services, ThreadAnswer};
 use crate::words::{APART, END, FROM, HEAD, LARGEST, Link, STEP, THREAD, TO, WIDTH, kind, number, word};
 
@@ -77,6 +77,25 @@ faults! {
     RefusedStretch = "a stretch that begins at 1 with a refusal",
     ReportChanged = "a thread call that changes the report",
     Panics = "a call that panics",
+    TrimKept = "a link kept though a longer path leads round it",
+    TrimTwo = "only paths of two links taken for other paths",
+    TrimRepeat = "a link dropped for its own repeat",
+    TrimLoopCopied = "a loop told as a trimmed copy",
+    TrimFair = "the fair copy for the trimmed one",
+    TrimLeftOut = "a link that stays left out",
+    TrimWays = "every way as a link of the trimmed copy",
+    TrimHead = "the trimmed copy with 200 episodes",
+    TrimFalling = "two to words of the trimmed copy the wrong way round",
+    TrimCount = "the trimmed copy's count of words one too high",
+    TrimBehind = "the word behind the trimmed copy changed",
+    TrimNeed = "11 for a trimmed copy with repeats counted once",
+    TrimNeedOwn = "11 by the words of the trimmed copy itself",
+    TrimTenUnasked = "question 10 not asked for a trimmed copy",
+    TrimLoopTurned = "the trimmed call's loop not from its smallest episode",
+    TrimLoopUnwritten = "the trimmed call's 13 without a loop in the output",
+    TrimLoopBehind = "the word behind the trimmed call's loop changed",
+    TrimLoopWork = "work words not zero after the trimmed call's 13",
+    TrimThirteenFirst = "question 13 before questions 11 and 12 for a trimmed copy",
 }
 
 pub struct Faulty(pub Fault);
@@ -294,10 +313,27 @@ fn altered(fault: Fault, log: &[u32], mut shown: Shown) -> Option<Shown> {
 /// A loop with a fault in it.
 fn altered_loop(fault: Fault, steps: &mut Vec<u32>) {
     match fault {
-        Fault::LoopTurned => steps.rotate_left(1),
+        Fault::LoopTurned | Fault::TrimLoopTurned => steps.rotate_left(1),
         Fault::LoopOpen if steps.len() > 1 => drop(steps.pop()),
         Fault::LoopLonger => steps.push(steps[0]),
         _ => {}
+    }
+}
+
+/// The loop in the output with a fault in it; how many episodes it has then.
+fn rewrite_loop(fault: Fault, out: &mut Lent, length: usize) -> usize {
+    let mut words = out.lent()[..length + 1].to_vec();
+    let mut steps = words.split_off(1);
+    altered_loop(fault, &mut steps);
+    words[0] = words[0] & !LARGEST | steps.len() as u32;
+    words.append(&mut steps);
+    if rewrite(out, length + 1, &words) { words.len() - 1 } else { length }
+}
+
+/// Swaps the first two to words that stand side by side.
+fn swap_two(copy: &mut [u32]) {
+    if let Some(place) = copy.windows(2).position(|pair| kind(pair[0]) == TO && kind(pair[1]) == TO) {
+        copy.swap(place, place + 1);
     }
 }
 
@@ -309,11 +345,7 @@ fn altered_copy(fault: Fault, log: &[u32], copy: &mut Vec<u32>) {
             copy.insert(last, copy[last - 1]);
             copy[last + 1] += 1;
         }
-        Fault::CopyFalling => {
-            if let Some(place) = copy.windows(2).position(|pair| kind(pair[0]) == TO && kind(pair[1]) == TO) {
-                copy.swap(place, place + 1);
-            }
-        }
+        Fault::CopyFalling => swap_two(copy),
         Fault::CopyAsIs => *copy = log.to_vec(),
         Fault::CopyNoLoops => {
             let graph = Graph::of(copy);
@@ -323,6 +355,52 @@ fn altered_copy(fault: Fault, log: &[u32], copy: &mut Vec<u32>) {
         Fault::CopyHead => copy[0] = word(HEAD, 200),
         _ => {}
     }
+}
+
+/// A trimmed copy with a fault in it.
+fn altered_trimmed(fault: Fault, log: &[u32], copy: &mut Vec<u32>) {
+    let (graph, trimmed) = (Graph::of(log), Graph::of(copy));
+    let mut kept = trimmed.links;
+    match fault {
+        Fault::TrimKept => kept.extend(graph.links.iter().find(|link| !kept.contains(link)).copied()),
+        Fault::TrimTwo => {
+            let round = |&(from, to): &Link| graph.next[from].iter().any(|&between| graph.linked(between, to));
+            kept = graph.links.iter().copied().filter(|link| !round(link)).collect();
+        }
+        Fault::TrimRepeat => {
+            let given = links(log);
+            kept.retain(|link| given.iter().filter(|other| *other == link).count() == 1);
+        }
+        Fault::TrimFair => kept = graph.links,
+        Fault::TrimLeftOut => drop(kept.pop()),
+        Fault::TrimWays => {
+            for from in 0..graph.n {
+                let ways = graph.ways_from(from);
+                kept.extend((0..graph.n).filter(|&to| ways[to]).map(|to| (from, to)));
+            }
+        }
+        Fault::TrimHead => return copy[0] = word(HEAD, 200),
+        Fault::TrimFalling => return swap_two(copy),
+        _ => return,
+    }
+    *copy = Graph::new(trimmed.n, kept).fair_copy();
+}
+
+/// The words of the library's trimmed copy, on buffers that suffice.
+fn trimmed_words(log: &[u32]) -> Option<Vec<u32>> {
+    let (mut out, mut work) = (vec![0; copy_need(log.len())], vec![0; WORK]);
+    let zohapy::TrimOutcome::Trimmed(count) = zohapy::trimmed_copy(log, &mut out, &mut work) else { return None };
+    out.truncate(count);
+    Some(out)
+}
+
+/// Gives a trimmed copy where nothing was written, if the buffers have room for it.
+fn give_trimmed(copy: &[u32], out: &mut Lent, work: &mut Lent) -> Option<Answer> {
+    if work.len() < WORK || !rewrite(out, 0, copy) {
+        return None;
+    }
+    work.lent_mut()[..WORK].fill(0);
+    Some(Answer { number: 0, value: copy.len() })
 }
 
 impl Services for Faulty {
@@ -364,14 +442,7 @@ impl Services for Faulty {
                 answer = Answer { number: 11, value: need + 1 };
             }
             (Fault::LoopTurned | Fault::LoopOpen | Fault::LoopLonger, 13) => {
-                let mut words = out.lent()[..answer.value + 1].to_vec();
-                let mut steps = words.split_off(1);
-                altered_loop(self.0, &mut steps);
-                words[0] = words[0] & !LARGEST | steps.len() as u32;
-                words.append(&mut steps);
-                if rewrite(out, answer.value + 1, &words) {
-                    answer.value = words.len() - 1;
-                }
+                answer.value = rewrite_loop(self.0, out, answer.value);
             }
             (fault, 0) => {
                 let shown = checkers::layout(&out.lent()[..answer.value]);
@@ -400,6 +471,56 @@ impl Services for Faulty {
             (fault, 0) => {
                 let mut copy = out.lent()[..answer.value].to_vec();
                 altered_copy(fault, log.lent(), &mut copy);
+                if rewrite(out, answer.value, &copy) {
+                    answer.value = copy.len();
+                }
+            }
+            _ => {}
+        }
+        answer
+    }
+
+    fn trimmed_copy(&mut self, door: Door, log: &mut Lent, out: &mut Lent, work: &mut Lent) -> Answer {
+        let mut answer = Library.trimmed_copy(door, log, out, work);
+        self.buffers(answer, log, out, work);
+        (answer.number, answer.value) = self.refusal(log.lent(), answer.number, answer.value);
+        let words = log.lent();
+        match (self.0, answer.number) {
+            (Fault::TrimCount, 0) => answer.value += 1,
+            (Fault::TrimBehind, 0) => change_at(out.lent_mut(), answer.value),
+            (Fault::TrimNeed, 11) => answer.value = copy_need(Graph::of(words).links.len()),
+            (Fault::TrimNeedOwn, 11) => {
+                if let Some(copy) = trimmed_words(words) {
+                    let short = Answer { number: 11, value: copy.len() };
+                    answer = give_trimmed(&copy, out, work).unwrap_or(short);
+                }
+            }
+            (Fault::TrimTenUnasked, 10) => {
+                let mut right = words.to_vec();
+                right[answer.value] = word(END, words.iter().filter(|&&given| kind(given) == TO).count());
+                if let Some(copy) = trimmed_words(&right) {
+                    answer = give_trimmed(&copy, out, work).unwrap_or(answer);
+                }
+            }
+            (Fault::TrimLoopCopied, 13) => {
+                let copy = Graph::of(words).fair_copy();
+                if rewrite(out, answer.value + 1, &copy) {
+                    answer = Answer { number: 0, value: copy.len() };
+                }
+            }
+            (Fault::TrimLoopTurned, 13) => answer.value = rewrite_loop(self.0, out, answer.value),
+            (Fault::TrimLoopUnwritten, 13) => drop(rewrite(out, answer.value + 1, &[])),
+            (Fault::TrimLoopBehind, 13) => change_at(out.lent_mut(), answer.value + 1),
+            (Fault::TrimLoopWork, 13) => {
+                let before = work.before()[..WORK].to_vec();
+                work.lent_mut()[..WORK].copy_from_slice(&before);
+            }
+            (Fault::TrimThirteenFirst, 11 | 12) if Graph::of(words).has_loop() => answer = Answer { number: 13, value: 1 },
+            (Fault::TwelveFirst, 11) if work.len() < WORK => answer = Answer { number: 12, value: WORK },
+            (Fault::TwelveLength, 12) => answer.value = work.len(),
+            (fault, 0) => {
+                let mut copy = out.lent()[..answer.value].to_vec();
+                altered_trimmed(fault, words, &mut copy);
                 if rewrite(out, answer.value, &copy) {
                     answer.value = copy.len();
                 }

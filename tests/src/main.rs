@@ -17,6 +17,7 @@ mod rounds;
 mod runs;
 mod services;
 mod shapes;
+mod trimmed;
 mod words;
 
 use std::process::ExitCode;

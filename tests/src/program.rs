@@ -4,7 +4,7 @@ use crate::checkers::{self, Shown};
 use crate::checks::Found;
 use crate::disagreement;
 use crate::random::Random;
-use crate::reference::{Refusal, Settled, Subject, WORK, bytes, report_need};
+use crate::reference::{Refusal, Subject, WORK, bytes, report_need};
 use crate::shapes;
 use crate::words::{bytes as as_bytes, log};
 use std::io::{Read, Write};
@@ -62,17 +62,17 @@ fn judge(input: &[u8], text: &str) -> Result<u32, String> {
         Ok(read) => read,
         Err(refusal) => return settled_text(refusal),
     };
-    let (graph, settled, _) = subject.passed.as_ref().expect("a log that passes has a graph");
+    let passed = subject.passed.as_ref().expect("a log that passes has a graph");
     let mut lines = text.lines();
-    match settled {
-        Settled::Loop => {
+    match passed.furthest() {
+        None => {
             let steps = figures(lines.nth(1), "loop")?;
             if text != loop_text(&steps) {
                 return Err(format!("{text:?} instead of {:?}", loop_text(&steps)));
             }
-            checkers::not_a_loop(&steps, graph).map_or(Ok(13), Err)
+            checkers::not_a_loop(&steps, &passed.graph).map_or(Ok(13), Err)
         }
-        Settled::Furthest(furthest) => {
+        Some(furthest) => {
             let head = [figures(lines.next(), "episodes")?, figures(lines.next(), "links")?];
             if head != [[n], [links]] {
                 return Err(format!("{head:?} instead of {n} episodes and {links} links"));
@@ -85,7 +85,7 @@ fn judge(input: &[u8], text: &str) -> Result<u32, String> {
                 return Err(format!("{text:?} is not in the form {:?}", report_text(n, links, &shown)));
             }
             let mut found = Found::default();
-            checkers::report(&shown, graph, furthest, &mut found);
+            checkers::report(&shown, &passed.graph, furthest, &mut found);
             found.0.pop().map_or(Ok(0), |(check, what)| Err(format!("{check:?}: {what}")))
         }
     }

@@ -9,6 +9,7 @@ use crate::random::Random;
 use crate::reference::{Subject, WORK, copy_need, parts, report_need};
 use crate::services::Services;
 use crate::shapes::{self, Linked};
+use crate::trimmed;
 use crate::words::{LARGEST, STEP, TO, kind, log, report, word};
 
 /// A round of the run. All of it follows from its seed.
@@ -17,6 +18,9 @@ pub fn round<S: Services>(caller: &mut Caller<S>, seed: u64) -> Checked<()> {
     caller.counts.rounds += 1;
     if random.chance(1, 12) {
         return properties(caller, random);
+    }
+    if random.chance(1, 14) {
+        return trimmed::properties(caller, random);
     }
     if random.chance(1, 16) {
         return made_up(caller, random);
@@ -35,6 +39,8 @@ pub fn round<S: Services>(caller: &mut Caller<S>, seed: u64) -> Checked<()> {
     for _ in 0..2 {
         let lengths = caller.lengths(copy_need, random);
         let _ = caller.fair_copy(&subject, lengths, random)?;
+        let lengths = caller.lengths(copy_need, random);
+        let _ = caller.trimmed_copy(&subject, lengths, random)?;
     }
     let mut whole = None;
     for _ in 0..3 {
@@ -44,7 +50,7 @@ pub fn round<S: Services>(caller: &mut Caller<S>, seed: u64) -> Checked<()> {
         }
     }
     match whole {
-        Some((shown, words)) if random.chance(1, if shown.width <= 24 { 3 } else { 10 }) => {
+        Some((shown, words)) if random.chance(1, if shown.width <= 24 { 5 } else { 20 }) => {
             all_threads(caller, &shown, words, random)
         }
         None if random.chance(1, 8) => other_words(caller, subject.words, random),
@@ -106,7 +112,7 @@ fn other_words<S: Services>(caller: &mut Caller<S>, mut words: Vec<u32>, random:
     caller.threads(&words, &parts(&words), &wanted, Asked::OtherWords, random).map(drop)
 }
 
-/// The properties across calls, on logs that pass and buffers that suffice.
+/// The properties of reports, fair copies and threads across calls, on logs that pass and buffers that suffice.
 pub fn properties<S: Services>(caller: &mut Caller<S>, random: &mut Random) -> Checked<()> {
     let (shape, linked) = shapes::passing(random);
     caller.shape = Some(shape);
@@ -170,7 +176,7 @@ pub fn properties<S: Services>(caller: &mut Caller<S>, random: &mut Random) -> C
 }
 
 /// The same set of links, with other repeats.
-fn again(linked: &Linked, random: &mut Random) -> Linked {
+pub fn again(linked: &Linked, random: &mut Random) -> Linked {
     let mut links = linked.links.clone();
     let room = 4_096 - links.len();
     if !links.is_empty() {
@@ -182,13 +188,18 @@ fn again(linked: &Linked, random: &mut Random) -> Linked {
     Linked { n: linked.n, links }
 }
 
-fn copied<S: Services>(caller: &mut Caller<S>, subject: &Subject, random: &mut Random) -> Checked<Copied> {
-    let links = subject.words.iter().filter(|&&given| kind(given) == TO).count();
-    let lengths = Lengths { out: copy_need(links) + random.below(3), work: WORK + random.below(3) };
+pub fn copied<S: Services>(caller: &mut Caller<S>, subject: &Subject, random: &mut Random) -> Checked<Copied> {
+    let lengths = copy_lengths(subject, random);
     caller.fair_copy(subject, lengths, random)
 }
 
-fn reported<S: Services>(caller: &mut Caller<S>, subject: &Subject, random: &mut Random) -> Checked<Gave> {
+/// Lengths that suffice for a copy.
+pub fn copy_lengths(subject: &Subject, random: &mut Random) -> Lengths {
+    let links = subject.words.iter().filter(|&&given| kind(given) == TO).count();
+    Lengths { out: copy_need(links) + random.below(3), work: WORK + random.below(3) }
+}
+
+pub fn reported<S: Services>(caller: &mut Caller<S>, subject: &Subject, random: &mut Random) -> Checked<Gave> {
     let lengths = Lengths { out: report_need(200) + random.below(3), work: WORK + random.below(3) };
     caller.report(subject, lengths, random)
 }

@@ -7,7 +7,7 @@ use crate::counts::{Counts, grouped};
 use crate::faults::{FAULTS, Fault, Faulty};
 use crate::random::{Random, round_seed};
 use crate::services::{Library, Services};
-use crate::{cases, disagreement, program, rounds};
+use crate::{cases, disagreement, program, rounds, trimmed};
 use std::panic::{AssertUnwindSafe, catch_unwind};
 use std::sync::atomic::{AtomicBool, Ordering};
 use std::time::Instant;
@@ -142,6 +142,9 @@ fn bare_catch(fault: Fault) -> Vec<Check> {
     let mut caught = Vec::new();
     for seed in 0..200 {
         if let Err(found) = guarded(&mut caller, |caller| rounds::properties(caller, &mut Random::new(seed))) {
+            caught.extend(names(&found));
+        }
+        if let Err(found) = guarded(&mut caller, |caller| trimmed::properties(caller, &mut Random::new(seed))) {
             caught.extend(names(&found));
         }
     }

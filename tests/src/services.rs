@@ -1,4 +1,4 @@
-//! The four services as the checks call them, with answers in the form of the C header.
+//! The five services as the checks call them, with answers in the form of the C header.
 
 use crate::lent::Lent;
 
@@ -38,6 +38,7 @@ pub trait Services {
     fn read(&mut self, door: Door, log: &mut Lent) -> ReadAnswer;
     fn report(&mut self, door: Door, log: &mut Lent, out: &mut Lent, work: &mut Lent) -> Answer;
     fn fair_copy(&mut self, door: Door, log: &mut Lent, out: &mut Lent, work: &mut Lent) -> Answer;
+    fn trimmed_copy(&mut self, door: Door, log: &mut Lent, out: &mut Lent, work: &mut Lent) -> Answer;
     fn thread(&mut self, door: Door, report: &mut Lent, i: usize) -> ThreadAnswer;
 }
 
@@ -59,6 +60,14 @@ mod header {
             work_words: usize,
         ) -> Answer;
         pub fn zohapy_fair_copy(
+            log: *const u32,
+            log_words: usize,
+            out: *mut u32,
+            out_words: usize,
+            work: *mut u32,
+            work_words: usize,
+        ) -> Answer;
+        pub fn zohapy_trimmed_copy(
             log: *const u32,
             log_words: usize,
             out: *mut u32,
@@ -108,6 +117,21 @@ impl Services for Library {
             Door::Rust => match zohapy::fair_copy(log, out, work) {
                 Ok(count) => Answer { number: 0, value: count },
                 Err(refusal) => Answer { number: refusal.number, value: refusal.place },
+            },
+        }
+    }
+
+    fn trimmed_copy(&mut self, door: Door, log: &mut Lent, out: &mut Lent, work: &mut Lent) -> Answer {
+        let (log, out, work) = (log.lent(), out.lent_mut(), work.lent_mut());
+        match door {
+            // SAFETY: the pointers and the lengths are those of three slices, and no two of them share a word.
+            Door::C => unsafe {
+                header::zohapy_trimmed_copy(log.as_ptr(), log.len(), out.as_mut_ptr(), out.len(), work.as_mut_ptr(), work.len())
+            },
+            Door::Rust => match zohapy::trimmed_copy(log, out, work) {
+                zohapy::TrimOutcome::Trimmed(count) => Answer { number: 0, value: count },
+                zohapy::TrimOutcome::Loop(length) => Answer { number: 13, value: length },
+                zohapy::TrimOutcome::Refused(refusal) => Answer { number: refusal.number, value: refusal.place },
             },
         }
     }

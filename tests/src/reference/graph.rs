@@ -11,6 +11,20 @@ pub struct Graph {
     pub next: Vec<Vec<usize>>,
 }
 
+/// The links of a log that passes questions 1 to 10, as it gives them: with repeats, in its order.
+pub fn links(log: &[u32]) -> Vec<Link> {
+    let mut links = Vec::new();
+    let mut from = 0;
+    for &given in &log[1..log.len() - 1] {
+        match kind(given) {
+            FROM => from = number(given),
+            TO => links.push((from, number(given))),
+            _ => unreachable!("the log passes"),
+        }
+    }
+    links
+}
+
 impl Graph {
     pub fn new(n: usize, mut links: Vec<Link>) -> Graph {
         links.sort_unstable();
@@ -24,16 +38,7 @@ impl Graph {
 
     /// The graph of a log that passes questions 1 to 10.
     pub fn of(log: &[u32]) -> Graph {
-        let mut links = Vec::new();
-        let mut from = 0;
-        for &given in &log[1..log.len() - 1] {
-            match kind(given) {
-                FROM => from = number(given),
-                TO => links.push((from, number(given))),
-                _ => unreachable!("the log passes"),
-            }
-        }
-        Graph::new(number(log[0]), links)
+        Graph::new(number(log[0]), links(log))
     }
 
     pub fn linked(&self, from: usize, to: usize) -> bool {

@@ -70,7 +70,7 @@ pub fn report_need(n: usize) -> usize {
     2 + 2 * n + ((n + 1) * (n + 1)) / 4
 }
 
-/// The output words that a fair copy needs.
+/// The output words that a fair or a trimmed copy needs.
 pub fn copy_need(links: usize) -> usize {
     2 + 2 * links
 }

@@ -1,40 +1,56 @@
 //! A log with all that is expected of calls on it.
 
 use super::furthest::{FEW, FEWER, by_flow, by_subsets, cover_by_unions, is_furthest};
+use super::trimming::{by_search, by_threads};
 use super::{Graph, Refusal, in_order};
-
-/// What a report call on a log that passes has to show.
-pub enum Settled {
-    Loop,
-    /// The furthest apart set. Its size is the width.
-    Furthest(Vec<usize>),
-}
+use std::cell::OnceCell;
 
 pub struct Subject {
     pub words: Vec<u32>,
     pub reading: Result<(usize, usize), Refusal>,
-    /// The graph of a log that passes, what a report shows, and the fair copy.
-    pub passed: Option<(Graph, Settled, Vec<u32>)>,
+    /// What is expected of a log that passes.
+    pub passed: Option<Passed>,
+}
+
+/// The graph of a log that passes. What calls on it have to show is worked out when it is first asked for.
+pub struct Passed {
+    pub graph: Graph,
+    has_loop: OnceCell<bool>,
+    furthest: OnceCell<Vec<usize>>,
+    trimmed: OnceCell<Vec<u32>>,
 }
 
 impl Subject {
     pub fn new(words: Vec<u32>) -> Subject {
         let reading = in_order(&words);
-        let passed = reading.ok().map(|_| {
-            let graph = Graph::of(&words);
-            let settled = settle(&graph);
-            let copy = graph.fair_copy();
-            (graph, settled, copy)
+        let passed = reading.ok().map(|_| Passed {
+            graph: Graph::of(&words),
+            has_loop: OnceCell::new(),
+            furthest: OnceCell::new(),
+            trimmed: OnceCell::new(),
         });
         Subject { words, reading, passed }
     }
 }
 
-/// The loop or the furthest apart set. Where more than one road can be gone, all must lead to the same answer.
-fn settle(graph: &Graph) -> Settled {
-    if graph.has_loop() {
-        return Settled::Loop;
+impl Passed {
+    fn has_loop(&self) -> bool {
+        *self.has_loop.get_or_init(|| self.graph.has_loop())
     }
+
+    /// The furthest apart set, whose size is the width; none where there is a loop.
+    pub fn furthest(&self) -> Option<&[usize]> {
+        (!self.has_loop()).then(|| &self.furthest.get_or_init(|| furthest(&self.graph))[..])
+    }
+
+    /// The trimmed copy; none where there is a loop.
+    pub fn trimmed_copy(&self) -> Option<&[u32]> {
+        (!self.has_loop()).then(|| &self.trimmed.get_or_init(|| trimmed_copy(&self.graph))[..])
+    }
+}
+
+/// The furthest apart set. Where more than one road can be gone, all must lead to the same answer.
+fn furthest(graph: &Graph) -> Vec<usize> {
     let furthest = by_flow(graph);
     if graph.n <= FEW {
         assert_eq!(furthest, by_subsets(graph), "the reference: flow and subsets differ");
@@ -44,5 +60,14 @@ fn settle(graph: &Graph) -> Settled {
     if graph.n <= FEWER {
         assert_eq!(furthest.len(), cover_by_unions(graph), "the reference: apart set and cover differ");
     }
-    Settled::Furthest(furthest)
+    furthest
+}
+
+/// The trimmed copy: the fair copy of the links that stay.
+fn trimmed_copy(graph: &Graph) -> Vec<u32> {
+    let stay = by_search(graph);
+    if graph.n <= FEW {
+        assert_eq!(stay, by_threads(graph), "the reference: search and threads differ");
+    }
+    Graph::new(graph.n, stay).fair_copy()
 }
