@@ -1,18 +1,15 @@
 -- Binary digits of a number: of `or`, `xor`, a power of two, a shifted number, and the lowest that is one.
 use mathlib.Core.Path.{_≡_, refl, sym, ap, _∙_, subst}
 use mathlib.Core.Logic.{_≢_}
-use Prim.Native.Nat.{ℕ, zero, suc, _+_, _-_, _*_, _/_, _%_, _^_, _<_, max}
-use native.Mathlib.Decide.{decLt}
-use native.Mathlib.Nat.{mod-lt, zero-lt-suc, div-eq-of-lt, pow-suc}
+use Prim.Native.Nat.{ℕ, zero, suc, _+_, _-_, _*_, _/_, _%_, _^_, _≤_, _<_, max}
+use native.Mathlib.Decide.{ℕ-discrete, decLt}
+use native.Mathlib.Nat.{mod-lt, mod-eq-of-lt, zero-lt-suc, div-eq-of-lt, pow-suc}
 use native.Mathlib.Omega.{arith}
 use lib.Arith.{digits-mod, lt-of-le-ne}
 use lib.Pow.{pow-pos, pow-add, pow-lt, shr-shr, shl-shr}
-use lib.Bits.{bitOr, bitXor, differ, or-shr, or-step, xor-shr, xor-step}
-use lib.Count.{trailingZeros, under}
-
--- digit `i` of `x`
-abbrev pub digit : ℕ → ℕ → ℕ
-digit x i = x / 2 ^ i % 2
+use lib.Bits.{bitOr, bitXor, differ, or-shr, or-step, xor-shr, xor-step, xor-lt}
+use lib.Count.{trailingZeros, trailing-of-zero, under}
+use Rattle.bits.specs.Bits.{digit}
 
 pub digit-lt : (x i : ℕ) → digit x i < 2
 digit-lt x i = mod-lt (x / 2 ^ i) (zero-lt-suc 1)
@@ -93,3 +90,87 @@ pub digit-below : (k x i : ℕ) → i < trailingZeros k x → digit x i ≡ 0
 unfolding trailingZeros
 digit-below zero x i h = absurd (omega arith)
 digit-below (suc k) x i h = under-below (x % 2) (trailingZeros k (x / 2)) x i refl (λ j l. digit-below k (x / 2) j l) h
+
+-- ---- the digits of a word that are one, from the lowest on
+
+differ-none : (x : ℕ) → differ x 0 ≡ x
+differ-none zero = refl
+differ-none (suc x) = refl
+
+-- one over `t` places, as a word holds it
+pub mask : (t : ℕ) → t < 32 → 1 * 2 ^ t % 4294967296 ≡ 2 ^ t
+mask t h =
+    let l : 2 ^ t < 4294967296 = pow-lt {i = t} {j = 32} h in
+    let e : 1 * 2 ^ t ≡ 2 ^ t = omega arith in
+    ap (λ (x : ℕ). x % 4294967296) e ∙ mod-eq-of-lt l
+
+-- `x` has the digits of `x₀` from `k` on, and no others
+pub record Rest (x₀ x k : ℕ) : Type 0 where
+  pub small : x < 2 ^ 32
+  pub at-most : k ≤ 32
+  pub below : (j : ℕ) → j < k → digit x j ≡ 0
+  pub above : (j : ℕ) → k ≤ j → digit x j ≡ digit x₀ j
+
+pub rest-start : (x : ℕ) → x < 2 ^ 32 → Rest x x 0
+rest-start x h = record { small = h; at-most = omega arith; below = λ j l. absurd (omega arith); above = λ j l. refl }
+
+-- the lowest is taken out
+module _ {x₀ x k : ℕ} (r : Rest x₀ x k) (some : 0 < x) where
+  abbrev lowest : ℕ
+  lowest = trailingZeros 32 x
+
+  abbrev less : ℕ
+  less = bitXor x (1 * 2 ^ trailingZeros 32 x % 4294967296)
+
+  pub rest-below : trailingZeros 32 x < 32
+  rest-below = digit-trailing 32 x (r .small) some .0
+
+  -- those before it were none
+  pub rest-least : k ≤ trailingZeros 32 x
+  rest-least = go (decLt (trailingZeros 32 x) k)
+    where
+      go : Dec (trailingZeros 32 x < k) → k ≤ trailingZeros 32 x
+      go (yes l) = absurd (omega (arith, r .below (trailingZeros 32 x) l, digit-trailing 32 x (r .small) some .1))
+      go (no l) = omega arith
+
+  pub rest-here : digit x₀ (trailingZeros 32 x) ≡ 1
+  rest-here = sym (r .above lowest rest-least) ∙ digit-trailing 32 x (r .small) some .1
+
+  pub rest-none : (j : ℕ) → k ≤ j → j < trailingZeros 32 x → digit x₀ j ≡ 0
+  rest-none j lo hi = sym (r .above j lo) ∙ digit-below 32 x j hi
+
+  digit-less : (j : ℕ) → digit less j ≡ differ (digit x j) (digit (2 ^ lowest) j)
+  digit-less j = rw (mask lowest rest-below) (digit-xor x (2 ^ lowest) j)
+
+  pub rest-on : Rest x₀ less (trailingZeros 32 x + 1)
+  rest-on =
+      record {
+        small = rw (mask lowest rest-below) (xor-lt 32 x (2 ^ lowest) (r .small) (pow-lt rest-below));
+        at-most = omega (arith, rest-below);
+        below = λ j l. digit-less j ∙ below j l (ℕ-discrete j lowest);
+        above = λ j l.
+            digit-less j ∙ rw (digit-other lowest j (λ e. absurd (omega arith))) (differ-none (digit x j))
+            ∙ r .above j (omega (arith, rest-least));
+      }
+    where
+      below : (j : ℕ) → j < lowest + 1 → Dec (j ≡ lowest) → differ (digit x j) (digit (2 ^ lowest) j) ≡ 0
+      below j l (yes e) = rw (e, digit-trailing 32 x (r .small) some .1, digit-one lowest) refl
+      below j l (no ne) = rw (digit-below 32 x j (omega (arith, ne)), digit-other lowest j ne) refl
+
+  pub rest-less : 32 - trailingZeros 32 less < 32 - trailingZeros 32 x
+  rest-less = go (ℕ-discrete less 0)
+    where
+      go : Dec (less ≡ 0) → 32 - trailingZeros 32 less < 32 - trailingZeros 32 x
+      go (yes e) = rw e (omega (arith, rest-below, trailing-of-zero 32))
+      go (no ne) =
+          let (low, one) = digit-trailing 32 less (rest-on .small) (omega (arith, ne)) in
+          higher low one (decLt (trailingZeros 32 less) (trailingZeros 32 x + 1))
+        where
+          higher : trailingZeros 32 less < 32 → digit less (trailingZeros 32 less) ≡ 1
+              → Dec (trailingZeros 32 less < trailingZeros 32 x + 1) → 32 - trailingZeros 32 less < 32 - trailingZeros 32 x
+          higher low one (yes l) = absurd (omega (arith, rest-on .below (trailingZeros 32 less) l))
+          higher low one (no l) = omega (arith, rest-below)
+
+-- none is left
+pub rest-end : {x₀ x k : ℕ} → Rest x₀ x k → x ≡ 0 → (j : ℕ) → k ≤ j → digit x₀ j ≡ 0
+rest-end r e j l = sym (r .above j l) ∙ ap (λ (y : ℕ). digit y j) e ∙ digit-none j

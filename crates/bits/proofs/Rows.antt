@@ -11,8 +11,8 @@ use lib.Seq.{getD-set-same, getD-set-other}
 use lib.Pow.{pow-lt, pow-mono}
 use lib.Bits.{bitOr, bitXor, differ, or-lt, xor-lt}
 use lib.Count.{trailingZeros}
-use Rattle.bits.specs.Bits.{bit, BitSet, RowJoined, RowCopied, FirstBit, NextNew}
-use Rattle.bits.proofs.Digits.{digit, digit-lt, digit-or, digit-xor, digit-shr, digit-one, digit-other, digit-trailing, digit-below, digit-none}
+use Rattle.bits.specs.Bits.{digit, bit, BitSet, RowJoined, RowCopied, FirstBit, NextNew}
+use Rattle.bits.proofs.Digits.{mask, digit-lt, digit-or, digit-xor, digit-shr, digit-one, digit-other, digit-trailing, digit-below, digit-none}
 
 pub bit-lt : (w : List ℕ) (row b : ℕ) → bit w row b < 2
 unfolding bit
@@ -33,12 +33,6 @@ bits-zero w row b e =
     ap (λ (x : ℕ). digit x (b % 32)) e ∙ digit-none (b % 32)
 
 -- ---- one bit set
-
-mask : (b : ℕ) → 1 * 2 ^ (b % 32) % 4294967296 ≡ 2 ^ (b % 32)
-mask b =
-    let l : 2 ^ (b % 32) < 4294967296 = pow-lt {i = b % 32} {j = 32} (mod-lt b (zero-lt-suc 31)) in
-    let e : 1 * 2 ^ (b % 32) ≡ 2 ^ (b % 32) = omega arith in
-    ap (λ (x : ℕ). x % 4294967296) e ∙ mod-eq-of-lt l
 
 pub set-bit-law : (w : List ℕ) (row b : ℕ) → row + b / 32 < length w
     → BitSet w (set w (row + b / 32) (bitOr (getD w (row + b / 32) 0) (1 * 2 ^ (b % 32) % 4294967296))) row b
@@ -67,7 +61,7 @@ set-bit-law w row b h =
     w′ = set w at stored
 
     new : getD w′ at 0 ≡ bitOr old (2 ^ (b % 32))
-    new = getD-set-same w at stored 0 h ∙ ap (bitOr old) (mask b)
+    new = getD-set-same w at stored 0 h ∙ ap (bitOr old) (mask (b % 32) (mod-lt b (zero-lt-suc 31)))
 
     others : (c : ℕ) → c ≢ b → Dec (c / 32 ≡ b / 32) → digit (getD w′ (row + c / 32) 0) (c % 32) ≡ digit (getD w (row + c / 32) 0) (c % 32)
     others c ne (no far) = ap (λ (x : ℕ). digit x (c % 32)) (getD-set-other w at (row + c / 32) stored 0 (λ e. far (omega arith)))
@@ -131,21 +125,21 @@ row-joined w w′ base a k i e s =
 abbrev pub NoneBefore : List ℕ → ℕ → ℕ → Type 0
 NoneBefore w row i = (c : ℕ) → c < 32 * i → bit w row c ≡ 0
 
-module _ (w : List ℕ) (row i : ℕ) (none : NoneBefore w row i) where
-  -- the bits of word `i` are its digits
-  bit-digit : (j : ℕ) → j < 32 → bit w row (32 * i + j) ≡ digit (getD w (row + i) 0) j
-  unfolding bit
-  bit-digit j h =
-      let e : (32 * i + j) / 32 ≡ i = omega arith in
-      let f : (32 * i + j) % 32 ≡ j = omega arith in
-      rw (e, f)
+-- the bits of word `i` of a row are its digits
+pub bit-digit : (w : List ℕ) (row i j : ℕ) → j < 32 → bit w row (32 * i + j) ≡ digit (getD w (row + i) 0) j
+unfolding bit
+bit-digit w row i j h =
+    let e : (32 * i + j) / 32 ≡ i = omega arith in
+    let f : (32 * i + j) % 32 ≡ j = omega arith in
+    rw (e, f)
 
+module _ (w : List ℕ) (row i : ℕ) (none : NoneBefore w row i) where
   pub first-here : i < 8 → getD w (row + i) 0 < 2 ^ 32 → 0 < getD w (row + i) 0 → FirstBit w row (32 * i + trailingZeros 32 (getD w (row + i) 0))
   first-here l h p =
       let (below, one) = digit-trailing 32 (getD w (row + i) 0) h p in
       record {
         at-most = omega arith;
-        here = λ q. bit-digit (trailingZeros 32 (getD w (row + i) 0)) below ∙ one;
+        here = λ q. bit-digit w row i (trailingZeros 32 (getD w (row + i) 0)) below ∙ one;
         none = λ c hi. go below c hi (decLt c (32 * i));
       }
     where
@@ -154,7 +148,7 @@ module _ (w : List ℕ) (row i : ℕ) (none : NoneBefore w row i) where
       go below c hi (yes q) = none c q
       go below c hi (no q) =
           let e : 32 * i + (c - 32 * i) ≡ c = omega arith in
-          rw e at (bit-digit (c - 32 * i) (omega arith) ∙ digit-below 32 (getD w (row + i) 0) (c - 32 * i) (omega arith))
+          rw e at (bit-digit w row i (c - 32 * i) (omega arith) ∙ digit-below 32 (getD w (row + i) 0) (c - 32 * i) (omega arith))
 
   pub none-here : getD w (row + i) 0 ≡ 0 → NoneBefore w row (i + 1)
   none-here z c hi = go (decLt c (32 * i))
@@ -230,7 +224,7 @@ fresh-zero (suc (suc x)) zero h k e f = absurd (omega arith)
 fresh-zero x (suc zero) h k e f = refl
 fresh-zero x (suc (suc y)) h k e f = absurd (omega arith)
 
-digit-fresh : (r o i : ℕ) → digit (fresh r o) i ≡ differ (max (digit r i) (digit o i)) (digit o i)
+pub digit-fresh : (r o i : ℕ) → digit (fresh r o) i ≡ differ (max (digit r i) (digit o i)) (digit o i)
 digit-fresh r o i = digit-xor (bitOr r o) o i ∙ ap (λ (x : ℕ). differ x (digit o i)) (digit-or r o i)
 
 -- a word that is what is fresh in another: its bits

@@ -5,6 +5,10 @@ use mathlib.Core.List.{List}
 use Prim.Native.Nat.{ℕ, zero, suc, _+_, _*_, _/_, _%_, _^_, _≤_, _<_, max}
 use lib.ListN.{length, getD}
 
+-- digit `i` of `x`, in binary
+abbrev pub digit : ℕ → ℕ → ℕ
+digit x i = x / 2 ^ i % 2
+
 -- bit `b` of the row that starts at word `row`
 unfoldable pub bit : List ℕ → ℕ → ℕ → ℕ
 bit w row b = getD w (row + b / 32) 0 / 2 ^ (b % 32) % 2

@@ -33,7 +33,6 @@ held ready room =
       ends = ready .ends;
       links = ready .links;
       ways = ready .ways;
-      none = λ i lo hi. ready .empty i lo (omega arith);
     }
 
 -- the words that question 11 asks for have room for the copy and for each loop

@@ -29,7 +29,7 @@ fn answer(n: usize, out: &mut [u32], w: &mut [u32]) -> TrimOutcome
     if length != 0 {
         return TrimOutcome::Loop(length);
     }
-    TrimOutcome::Trimmed(trimming::write_trimmed(n, out, w))
+    TrimOutcome::Trimmed(trimming::write_trimmed(w, n, out))
 }
 
 // The trimmed copy or the loop of a log that passes, in work words of which none is left as it was.

@@ -1,5 +1,5 @@
 -- The trimmed copy: its theorems are in TrimmedCopies; the other modules lead to the proof of the code.
 pub mod Kept
-pub mod Implying
-pub mod Rows
 pub mod TrimmedCopies
+pub mod Joining
+pub mod Rows

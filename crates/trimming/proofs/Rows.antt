@@ -1,139 +1,127 @@
--- The links of a row that are not noted as implied: the test, how they are written one by one, and that they are the links that stay.
-use mathlib.Core.Path.{_≡_, sym, _∙_}
-use mathlib.Core.Bool.{true, false}
-use mathlib.Core.List.{List, _++_}
-use Prim.Native.Nat.{ℕ, _+_, _*_, _≤_, _<_}
-use native.Mathlib.Decide.{ℕ-discrete, decLt}
+-- The links of a row that are not implied: how they are written, bit by bit of a word and word by word, and that they are the links that stay.
+use mathlib.Core.Path.{_≡_, refl, sym, _∙_}
+use mathlib.Core.Bool.{Bool, true, false, _&&_}
+use mathlib.Core.List.{List, [], _∷_}
+use Prim.Native.Nat.{ℕ, zero, suc, _+_, _-_, _*_, _^_, _≤_, _<_, max}
+use native.Mathlib.Decide.{ℕ-discrete}
 use native.Mathlib.Omega.{arith}
+use lib.Bits.{bitXor, differ}
+use lib.Count.{trailingZeros}
 use lib.Dec.{eqb}
-use lib.ListN.{length, getD, set}
+use lib.ListN.{length, getD, set, length-append}
 use borrow.Author.Tests.{eqb-true, eq-eqb, ne-eqb}
 use Rattle.paths.specs.Graph.{Graph, Link}
-use Rattle.paths.specs.Trimmed.{Implied, Stays}
+use Rattle.paths.specs.Passing.{passing}
+use Rattle.paths.specs.Trimmed.{Stays}
 use Rattle.paths.proofs.Numbers.{rising-equal}
-use Rattle.paths.proofs.Passing.{passing-below, passing-test, test-passing, passing-rising}
-use Rattle.paths.proofs.Trimming.{stays-direct, direct-stays}
+use Rattle.paths.proofs.Passing.{passing-more, passing-le, passing-below, passing-test, test-passing, passing-rising}
+use Rattle.paths.proofs.Trimming.{stays-direct, direct-stays, trimmed-ends}
 use Rattle.log.specs.Words.{word}
-use Rattle.bits.specs.Bits.{bit, NextNew}
-use Rattle.bits.specs.Work.{linksAt, Outside}
-use Rattle.bits.proofs.Rows.{bit-lt}
-use Rattle.bits.proofs.Frames.{Cleared, outside-then, bit-before, matrix-before}
-use Rattle.writing.proofs.Listing.{Listing, listing-none, listing-more, listing-skip}
-use Rattle.copying.specs.FairCopy.{linked, linkedTo}
-use Rattle.copying.proofs.Linked.{both, linkedTo-mem, mem-linkedTo}
+use Rattle.bits.specs.Bits.{digit, bit}
+use Rattle.bits.specs.Work.{linksAt}
+use Rattle.bits.proofs.Digits.{digit-lt, Rest, rest-start, rest-here, rest-below, rest-least, rest-none, rest-on, rest-end}
+use Rattle.bits.proofs.Rows.{bit-lt, bit-digit, fresh, digit-fresh}
+use Rattle.writing.proofs.Listing.{Listing, listing-more, listing-skip}
+use Rattle.copying.specs.FairCopy.{linked, linkedTo, group}
+use Rattle.copying.proofs.Linked.{both, length-group, linkedTo-mem, mem-linkedTo}
 use Rattle.trimming.specs.TrimmedCopy.{trimmed}
-use Rattle.trimming.specs.Trimming.{impliedAt, Held, ImpliedNoted, keptAt, keptTo}
+use Rattle.trimming.specs.Trimming.{Held, HoldsImplied, keptAt, keptTo, TellsDigits}
 use Rattle.trimming.proofs.Kept.{trimmed-is}
 
--- ---- the test
+-- ---- the bits of a word
 
-module _ (w : List ℕ) (a b : ℕ) where
-  pub is-kept : bit w (linksAt + 8 * a) b ≡ 1 → bit w impliedAt b ≡ 0 → keptAt w a b ≡ true
-  is-kept e f = rw (eq-eqb _ 1 e, eq-eqb _ 0 f)
+-- The to words of the bits of `x` below `k` are written, and `rest` has the others.
+module _ (first : ℕ) {test : ℕ → Bool} {o o′ : List ℕ} {x rest k count : ℕ} (tells : TellsDigits test x first) (few : first + 32 ≤ 256) (r : Rest x rest k)
+    (s : Listing test 3 o o′ 256 count (first + k)) where
+  -- none passes where the digits are zero
+  up-to : (t : ℕ) → k ≤ t → t ≤ 32 → ((j : ℕ) → k ≤ j → j < t → digit x j ≡ 0) → Listing test 3 o o′ 256 count (first + t)
+  up-to t lo hi none =
+      listing-skip test 3 o o′ 256 count (first + k) s (first + t) (omega arith) (omega arith)
+      (λ c l h.
+      let e : first + (c - first) ≡ c = omega arith in
+      rw e at (tells (c - first) (omega arith) ∙ ne-eqb (digit x (c - first)) 1 (λ f. omega (arith, none (c - first) (omega arith) (omega arith)))))
 
-  pub kept-is : keptAt w a b ≡ true → (bit w (linksAt + 8 * a) b ≡ 1) × (bit w impliedAt b ≡ 0)
-  kept-is e =
-      let (l, i) = both (eqb (bit w (linksAt + 8 * a) b) 1) (eqb (bit w impliedAt b) 0) e in
-      (eqb-true _ 1 l, eqb-true _ 0 i)
+  module _ (some : 0 < rest) where
+    passes : test (first + trailingZeros 32 rest) ≡ true
+    passes = tells (trailingZeros 32 rest) (rest-below r some) ∙ eq-eqb _ 1 (rest-here r some)
 
-  not-kept : (bit w (linksAt + 8 * a) b ≡ 1 → bit w impliedAt b ≡ 1) → keptAt w a b ≡ false
-  not-kept h = go (ℕ-discrete (bit w (linksAt + 8 * a) b) 1)
-    where
-      go : Dec (bit w (linksAt + 8 * a) b ≡ 1) → keptAt w a b ≡ false
-      go (no ne) = rw (ne-eqb _ 1 ne)
-      go (yes e) = rw (eq-eqb _ 1 e, ne-eqb (bit w impliedAt b) 0 (λ z. let o = h e in omega arith))
+    here : Listing test 3 o o′ 256 count (first + trailingZeros 32 rest)
+    here = up-to (trailingZeros 32 rest) (rest-least r some) (omega (arith, rest-below r some)) (rest-none r some)
 
--- ---- written one by one
+    -- there is room for one more
+    pub bit-room : length (passing test 256) < length o → count + 1 < length o
+    bit-room room =
+        let t : ℕ = first + trailingZeros 32 rest in
+        let more : length (passing test (t + 1)) ≡ length (passing test t) + 1 = rw (passing-more test t passes) (length-append (passing test t) (t ∷ [])) in
+        let le = passing-le test (t + 1) 256 (omega (arith, rest-below r some)) in
+        omega (arith, here .size)
 
--- The links below `b` that are kept are written, and `b` is the next one, or 256.
-pub record Finding (w o o′ : List ℕ) (n a links b : ℕ) : Type 0 where
-  from : ℕ
-  pub listing : Listing (keptAt w a) 3 o o′ n links from
-  pub at-least : from ≤ b
-  pub at-most : b ≤ 256
-  none : (c : ℕ) → from ≤ c → c < b → keptAt w a c ≡ false
-  pub next : b < 256 → keptAt w a b ≡ true
+    pub bit-written : length (passing test 256) < length o
+        → Listing test 3 o (set o′ (count + 1) (word 3 (first + trailingZeros 32 rest))) 256 (count + 1) (first + (trailingZeros 32 rest + 1))
+    bit-written room =
+        let e : first + trailingZeros 32 rest + 1 ≡ first + (trailingZeros 32 rest + 1) = omega arith in
+        rw e at
+        (listing-more test 3 o o′ 256 count (first + trailingZeros 32 rest) here (omega (arith, rest-below r some)) (bit-room room) passes)
 
--- from what `next_new` gives
-finding : {w o o′ : List ℕ} {n a links from b : ℕ} → Listing (keptAt w a) 3 o o′ n links from → NextNew w (linksAt + 8 * a) impliedAt from b
-    → Finding w o o′ n a links b
-finding {w} {a = a} {from = from} {b = b} s f =
-    record {
-      from = from;
-      listing = s;
-      at-least = f .at-least;
-      at-most = f .at-most;
-      none = λ c lo hi. not-kept w a c (f .passed c lo hi);
-      next = λ h. is-kept w a b (f .new h .0) (f .new h .1);
-    }
+  pub bits-written : rest ≡ 0 → Listing test 3 o o′ 256 count (first + 32)
+  bits-written e = up-to 32 (r .at-most) (omega arith) (λ j lo hi. rest-end r e j lo)
 
-pub finding-start : (w o : List ℕ) (n a b : ℕ) → 0 < length o → NextNew w (linksAt + 8 * a) impliedAt 0 b → Finding w o o n a 0 b
-finding-start w o n a b h f = finding (listing-none (keptAt w a) 3 o n h) f
+-- ---- the words of a row
 
-module _ {w o o′ : List ℕ} {n a links b : ℕ} (s : Finding w o o′ n a links b) where
-  -- what is written goes up to any number at which none has come between
-  up-to : (u : ℕ) → s .from ≤ u → u ≤ n → u ≤ b → Listing (keptAt w a) 3 o o′ n links u
-  up-to u l h k = listing-skip (keptAt w a) 3 o o′ n links (s .from) (s .listing) u l h (λ c lo hi. s .none c lo (omega arith))
+-- what is fresh in one bit over another, as the test has it
+fresh-test : (x y : ℕ) → x < 2 → y < 2 → eqb x 1 && eqb y 0 ≡ eqb (differ (max x y) y) 1
+fresh-test zero zero h k = refl
+fresh-test zero (suc zero) h k = refl
+fresh-test (suc zero) zero h k = refl
+fresh-test (suc zero) (suc zero) h k = refl
+fresh-test zero (suc (suc y)) h k = absurd (omega arith)
+fresh-test (suc zero) (suc (suc y)) h k = absurd (omega arith)
+fresh-test (suc (suc x)) y h k = absurd (omega arith)
 
-  pub finding-here : b < n → Listing (keptAt w a) 3 o o′ n links b
-  finding-here h = up-to b (s .at-least) (omega arith) (omega arith)
+-- the test of what is kept tells the digits of word `i`
+pub word-tells : (w : List ℕ) (a : ℕ) (v : List ℕ) (i : ℕ) → TellsDigits (keptAt w a v) (fresh (getD w (linksAt + 8 * a + i) 0) (getD v i 0)) (32 * i)
+word-tells w a v i j h =
+    let e : 0 + i ≡ i = omega arith in
+    let l : bit w (linksAt + 8 * a) (32 * i + j) ≡ digit (getD w (linksAt + 8 * a + i) 0) j = bit-digit w (linksAt + 8 * a) i j h in
+    let o : bit v 0 (32 * i + j) ≡ digit (getD v i 0) j = bit-digit v 0 i j h ∙ rw e in
+    rw (l, o, digit-fresh (getD w (linksAt + 8 * a + i) 0) (getD v i 0) j)
+    (fresh-test (digit (getD w (linksAt + 8 * a + i) 0) j) (digit (getD v i 0) j) (digit-lt _ j) (digit-lt _ j))
 
-  pub finding-on : {b′ : ℕ} → b < n → n ≤ 256 → links + 1 < length o → NextNew w (linksAt + 8 * a) impliedAt (b + 1) b′
-      → Finding w o (set o′ (links + 1) (word 3 b)) n a (links + 1) b′
-  finding-on h few room f =
-      finding (listing-more (keptAt w a) 3 o o′ n links b (finding-here h) h room (s .next (omega arith))) f
-
-  pub finding-end : n ≤ b → Listing (keptAt w a) 3 o o′ n links n
-  finding-end h = up-to n (s .listing .item) (omega arith) h
+-- a group has a word for each of its links
+pub group-holds : (a : ℕ) (bs : List ℕ) (k : ℕ) → length (group a bs) < k → length bs < k
+group-holds a [] k h = omega arith
+group-holds a (b ∷ bs) k h = omega (arith, length-group a (b ∷ bs))
 
 -- ---- they are the links that stay
 
-module _ {g : Graph} {n a : ℕ} {w w′ : List ℕ} (held : Held g n w) (h : a < n) (noted : ImpliedNoted w w′ a) where
-  links-same : (b : ℕ) → b < 256 → bit w′ (linksAt + 8 * a) b ≡ bit w (linksAt + 8 * a) b
-  links-same b hb = bit-before (noted .outside) (linksAt + 8 * a) b (omega (arith, held .few)) hb
-
-  kept-link : (b : ℕ) → b < n → keptAt w′ a b ≡ true → Link (trimmed g) a b
+module _ (v : List ℕ) {g : Graph} {n a : ℕ} {w : List ℕ} (held : Held g n w) (h : a < n) (implied : HoldsImplied w a v) where
+  kept-link : (b : ℕ) → b < 256 → keptAt w a v b ≡ true → Link (trimmed g) a b
   kept-link b hb e =
-      let few = held .few in
-      let (l, i) = kept-is w′ a b e in
-      let link : Link g a b = held .links .sound a b (omega arith) (omega arith) (sym (links-same b (omega arith)) ∙ l) in
-      trimmed-is g .links a b .1
-      (direct-stays (held .ends) link (λ y. let o = noted .implied g n held b (omega arith) .1 y in omega arith))
+      let (l, i) = both (eqb (bit w (linksAt + 8 * a) b) 1) (eqb (bit v 0 b) 0) e in
+      let link : Link g a b = held .links .sound a b (omega (arith, held .few)) hb (eqb-true _ 1 l) in
+      let none : bit v 0 b ≡ 0 = eqb-true _ 0 i in
+      trimmed-is g .links a b .1 (direct-stays (held .ends) link (λ y. let o = implied g n held b hb .1 y in omega arith))
 
-  link-kept : (b : ℕ) → b < n → Link (trimmed g) a b → keptAt w′ a b ≡ true
+  link-kept : (b : ℕ) → b < 256 → Link (trimmed g) a b → keptAt w a v b ≡ true
   link-kept b hb l =
-      let few = held .few in
       let stays : Stays g a b = trimmed-is g .links a b .0 l in
-      let o : bit w′ (linksAt + 8 * a) b ≡ 1 =
-      links-same b (omega arith) ∙ held .links .complete a b (omega arith) (omega arith) (stays .link) in
-      is-kept w′ a b o (zero stays (ℕ-discrete (bit w′ impliedAt b) 1))
+      let one : bit w (linksAt + 8 * a) b ≡ 1 = held .links .complete a b (omega (arith, held .few)) hb (stays .link) in
+      let none : bit v 0 b ≡ 0 = zero-bit stays (ℕ-discrete (bit v 0 b) 1) in
+      rw (eq-eqb _ 1 one, eq-eqb _ 0 none)
     where
-      zero : Stays g a b → Dec (bit w′ impliedAt b ≡ 1) → bit w′ impliedAt b ≡ 0
-      zero stays (yes e) =
-          let few = held .few in
-          absurd (stays-direct (held .ends) stays (noted .implied g n held b (omega arith) .0 e))
-      zero stays (no ne) = omega (arith, ne, bit-lt w′ impliedAt b)
+      zero-bit : Stays g a b → Dec (bit v 0 b ≡ 1) → bit v 0 b ≡ 0
+      zero-bit stays (yes e) = absurd (stays-direct (held .ends) stays (implied g n held b hb .0 e))
+      zero-bit stays (no ne) = omega (arith, ne, bit-lt v 0 b)
 
-  pub row-stays : keptTo w′ a n ≡ linkedTo a (trimmed g .links) n
+  pub row-stays : keptTo w a v ≡ linkedTo a (trimmed g .links) n
   row-stays =
-      rising-equal (keptTo w′ a n) (linkedTo a (trimmed g .links) n)
-      (passing-rising (keptAt w′ a) n) (passing-rising (λ b. linked a b (trimmed g .links)) n)
+      rising-equal (keptTo w a v) (linkedTo a (trimmed g .links) n)
+      (passing-rising (keptAt w a v) 256) (passing-rising (λ b. linked a b (trimmed g .links)) n)
       (λ b m.
-      let k = passing-below (keptAt w′ a) n m in
-      mem-linkedTo a (trimmed g .links) b n k (kept-link b k (passing-test (keptAt w′ a) n m)))
-      (λ b m. let (k, l) = linkedTo-mem a (trimmed g .links) b n m in test-passing (keptAt w′ a) n k (link-kept b k l))
-
-  -- once the row of what is implied is made zero, all is as before
-  pub held-again : {v : List ℕ} → Cleared impliedAt (impliedAt + 8) w′ v → Held g n v
-  held-again clear =
-      let still = outside-then (noted .outside) (clear .outside) in
-      record {
-        count = held .count;
-        few = held .few;
-        small = held .small;
-        long = rw (still .same-length) (held .long);
-        ends = held .ends;
-        links = matrix-before (omega arith) still (held .links);
-        ways = matrix-before (omega arith) still (held .ways);
-        none = clear .zeros;
-      }
+      let link = kept-link b (passing-below (keptAt w a v) 256 m) (passing-test (keptAt w a v) 256 m) in
+      let e = trimmed-ends (trimmed-is g) (held .ends) a b link in
+      mem-linkedTo a (trimmed g .links) b n (omega (arith, trimmed-is g .episodes, held .count)) link)
+      (λ b m.
+      let (k, l) = linkedTo-mem a (trimmed g .links) b n m in
+      let hb : b < 256 = omega (arith, held .few) in
+      test-passing (keptAt w a v) 256 hb (link-kept b hb l))

@@ -1,42 +1,53 @@
 -- What the steps to a trimmed copy leave.
 use mathlib.Core.Path.{_≡_}
-use mathlib.Core.Logic.{_↔_}
+use mathlib.Core.Logic.{_⊎_, _↔_}
 use mathlib.Core.Bool.{Bool, _&&_}
 use mathlib.Core.List.{List}
-use Prim.Native.Nat.{ℕ, _+_, _*_, _≤_, _<_}
+use Prim.Native.Nat.{ℕ, _+_, _*_, _≤_, _<_, max}
 use lib.Dec.{eqb}
-use lib.ListN.{length, getD}
+use lib.ListN.{length}
 use Rattle.paths.specs.Graph.{Graph, EndsBelow, Link, Way}
 use Rattle.paths.specs.Passing.{passing}
 use Rattle.paths.specs.Trimmed.{Implied}
 use Rattle.log.specs.Words.{Small}
-use Rattle.bits.specs.Bits.{bit}
-use Rattle.bits.specs.Work.{linksAt, waysAt, Matrix, Outside}
+use Rattle.bits.specs.Bits.{digit, bit}
+use Rattle.bits.specs.Work.{linksAt, waysAt, nextAt, Matrix}
 
--- a row of bits behind the ways: what is implied of one episode's links
-abbrev pub impliedAt : ℕ
-impliedAt = 4096
-
--- the work words hold the links and the ways of a graph with `n` episodes, and nothing is noted as implied
+-- the work words hold the links and the ways of a graph with `n` episodes, and a word can hold the count of its links
 pub record Held (g : Graph) (n : ℕ) (w : List ℕ) : Type 0 where
   pub count : g .n ≡ n
   pub few : n ≤ 256
   pub small : Small (length (g .links))
-  pub long : impliedAt + 8 ≤ length w
+  pub long : nextAt ≤ length w
   pub ends : EndsBelow g
   pub links : Matrix linksAt w (Link g)
   pub ways : Matrix waysAt w (Way g)
-  pub none : (i : ℕ) → impliedAt ≤ i → i < impliedAt + 8 → getD w i 0 ≡ 0
 
--- the row behind the ways has what the ways of the links of `a` hold together
-pub record ImpliedNoted (w w′ : List ℕ) (a : ℕ) : Type 0 where
-  pub outside : Outside impliedAt (impliedAt + 8) w w′
-  pub implied : (g : Graph) (n : ℕ) → Held g n w → (c : ℕ) → c < 256 → (bit w′ impliedAt c ≡ 1) ↔ Implied g a c
+-- the row of bits `v′` has besides those of `v` those of the row of `w` that starts at word `row`
+pub record RowAdded (w : List ℕ) (row : ℕ) (v v′ : List ℕ) : Type 0 where
+  pub same-length : length v′ ≡ length v
+  pub joined : (c : ℕ) → c < 256 → bit v′ 0 c ≡ max (bit v 0 c) (bit w row c)
 
--- whether `b` is a link of `a` that is not noted as implied
-abbrev pub keptAt : List ℕ → ℕ → ℕ → Bool
-keptAt w a b = eqb (bit w (linksAt + 8 * a) b) 1 && eqb (bit w impliedAt b) 0
+-- and `v′` those of the ways of `first + j`, for each digit `j` of `x` that is one
+pub record WaysAdded (w : List ℕ) (x first : ℕ) (v v′ : List ℕ) : Type 0 where
+  pub same-length : length v′ ≡ length v
+  pub old : (c : ℕ) → c < 256 → bit v 0 c ≡ 1 → bit v′ 0 c ≡ 1
+  pub new : (j c : ℕ) → j < 32 → c < 256 → digit x j ≡ 1 → bit w (waysAt + 8 * (first + j)) c ≡ 1 → bit v′ 0 c ≡ 1
+  pub no-other : (c : ℕ) → c < 256 → bit v′ 0 c ≡ 1
+      → (bit v 0 c ≡ 1) ⊎ ((j : ℕ) × (j < 32) × (digit x j ≡ 1) × (bit w (waysAt + 8 * (first + j)) c ≡ 1))
 
--- the numbers below `n` that are, rising
-abbrev pub keptTo : List ℕ → ℕ → ℕ → List ℕ
-keptTo w a n = passing (keptAt w a) n
+-- the row of bits `v` has what is implied of the links of `a`
+abbrev pub HoldsImplied : List ℕ → ℕ → List ℕ → Type 0
+HoldsImplied w a v = (g : Graph) (n : ℕ) → Held g n w → (c : ℕ) → c < 256 → (bit v 0 c ≡ 1) ↔ Implied g a c
+
+-- whether `b` is a link of `a` that is not among the bits of `v`
+abbrev pub keptAt : List ℕ → ℕ → List ℕ → ℕ → Bool
+keptAt w a v b = eqb (bit w (linksAt + 8 * a) b) 1 && eqb (bit v 0 b) 0
+
+-- those that are, rising
+abbrev pub keptTo : List ℕ → ℕ → List ℕ → List ℕ
+keptTo w a v = passing (keptAt w a v) 256
+
+-- the test tells the digits of `x`, counted from `first` on
+abbrev pub TellsDigits : (ℕ → Bool) → ℕ → ℕ → Type 0
+TellsDigits test x first = (j : ℕ) → j < 32 → test (first + j) ≡ eqb (digit x j) 1

@@ -1,45 +1,91 @@
 // The trimmed copy of a log, row by row: what the ways of an episode's links hold together is implied, and its links less that are written.
 ghost use mathlib.Core.Path.{_≡_};
-ghost use Prim.Native.Nat.{_+_, _<_, _≤_};
-ghost use lib.ListN.{length};
+ghost use mathlib.Core.Bool.{Bool};
+ghost use mathlib.Core.List.{List};
+ghost use Prim.Native.Nat.{ℕ, _+_, _<_, _≤_};
+ghost use lib.ListN.{length, replicate};
 ghost use Rattle.paths.specs.Graph.{Graph};
+ghost use Rattle.paths.specs.Passing.{passing};
+ghost use Rattle.bits.specs.Work.{nextAt};
 ghost use Rattle.writing.specs.Layout.{BeginsWith};
+ghost use Rattle.writing.proofs.Listing.{Listing};
 ghost use Rattle.copying.specs.FairCopy.{linkedTo, group};
 ghost use Rattle.copying.specs.Copying.{GroupWritten, GroupsWritten};
 ghost use Rattle.trimming.specs.TrimmedCopy.{trimmed, trimmedWords};
-ghost use Rattle.trimming.specs.Trimming.{impliedAt, Held, ImpliedNoted, keptTo};
+ghost use Rattle.trimming.specs.Trimming.{Held, RowAdded, WaysAdded, HoldsImplied, keptTo, TellsDigits};
 use bits::LINKS;
 use bits::WAYS;
 use copying::Written;
 
-// The row behind the ways, row 256 of their matrix, for what is implied.
-const IMPLIED: usize = 4096;
-
-// Notes what is implied of the links of `a`: joins the ways of each. A link that is implied itself has no way that is not noted.
-fn note_implied(w: &mut [u32], a: usize)
-    requires { ⌜ (impliedAt + 8 ≤ length (now w)) × (a < 256) ⌝ }
-    ensures { λ _. ⌜ ImpliedNoted (now (w .entry)) (now (w .exit)) a ⌝ }
+// Joins the row of `w` that starts at word `row` into `implied`.
+fn join_into(w: &[u32], row: usize, implied: &mut [u32])
+    requires { ⌜ (row + 8 ≤ length (now w)) × (length (now implied) ≡ 8) ⌝ }
+    ensures { λ _. ⌜ RowAdded (now (w .entry)) row (now (implied .entry)) (now (implied .exit)) ⌝ }
 {
-    let links = LINKS + 8 * a;
-    let mut b = bits::next_new(w, links, IMPLIED, 0);
-    while b < 256 {
-        bits::join_row(w, WAYS, 256, b);
-        b = bits::next_new(w, links, IMPLIED, b + 1);
+    let mut i = 0;
+    while i < 8 {
+        implied[i] = implied[i] | w[row + i];
+        i += 1;
     }
 }
 
-// Writes the group of `a` with its links that are not noted as implied, and gives their count.
-fn write_row(w: &[u32], n: usize, a: usize, out: &mut [u32]) -> usize
-    requires { ⌜ (impliedAt + 8 ≤ length (now w)) × (a < n) × (n ≤ 256) × (length (group a (keptTo (now w) a n)) < length (now out)) ⌝ }
-    ensures { λ r. ⌜ GroupWritten a (keptTo (now (w .entry)) a n) (now (out .entry)) (now (out .exit)) r ⌝ }
+// Joins into `implied` the ways of the episodes that are the bits of `links`, counted from `first` on.
+fn join_ways(w: &[u32], links: u32, first: usize, implied: &mut [u32])
+    requires { ⌜ (nextAt ≤ length (now w)) × (first + 32 ≤ 256) × (length (now implied) ≡ 8) ⌝ }
+    ensures { λ _. ⌜ WaysAdded (now (w .entry)) links first (now (implied .entry)) (now (implied .exit)) ⌝ }
+{
+    let mut rest = links;
+    while rest != 0 {
+        let bit = u32::trailing_zeros(rest);
+        join_into(w, WAYS + 8 * (first + bit as usize), implied);
+        rest = rest ^ (1 << bit);
+    }
+}
+
+// Notes what is implied of the links of `a`: joins the ways of each. A link that is implied itself has no way that is not noted.
+fn note_implied(w: &[u32], a: usize, implied: &mut [u32])
+    requires { ⌜ (nextAt ≤ length (now w)) × (a < 256) × (now implied ≡ replicate 8 0) ⌝ }
+    ensures { λ _. ⌜ HoldsImplied (now (w .entry)) a (now (implied .exit)) ⌝ }
+{
+    let row = LINKS + 8 * a;
+    let mut i = 0;
+    while i < 8 {
+        let old = implied[i];
+        join_ways(w, (w[row + i] | old) ^ old, 32 * i, implied);
+        i += 1;
+    }
+}
+
+// Writes a to word for each bit of `kept`, counted from `first` on, behind `links` others, and gives the count of all.
+fn write_word(kept: u32, first: usize, links: usize, out: &mut [u32]) -> usize
+    requires { ⌜ ((test : ℕ → Bool) × (o : List ℕ) × TellsDigits test kept first × Listing test 3 o (now out) 256 links first
+        × (length (passing test 256) < length o)) × (first + 32 ≤ 256) ⌝ }
+    ensures { λ r. ⌜ ((test : ℕ → Bool) (o : List ℕ) → TellsDigits test kept first → Listing test 3 o (now (out .entry)) 256 links first
+        → length (passing test 256) < length o → Listing test 3 o (now (out .exit)) 256 r (first + 32)) ⌝ }
+{
+    let mut count = links;
+    let mut rest = kept;
+    while rest != 0 {
+        let bit = u32::trailing_zeros(rest);
+        count += 1;
+        out[count] = 0x3000_0000 + (first as u32 + bit);
+        rest = rest ^ (1 << bit);
+    }
+    count
+}
+
+// Writes the group of `a` with its links that are not implied, and gives their count.
+fn write_row(w: &[u32], a: usize, implied: &[u32], out: &mut [u32]) -> usize
+    requires { ⌜ (nextAt ≤ length (now w)) × (a < 256) × (length (now implied) ≡ 8) × (length (group a (keptTo (now w) a (now implied))) < length (now out)) ⌝ }
+    ensures { λ r. ⌜ GroupWritten a (keptTo (now (w .entry)) a (now (implied .entry))) (now (out .entry)) (now (out .exit)) r ⌝ }
 {
     let row = LINKS + 8 * a;
     let mut links = 0;
-    let mut b = bits::next_new(w, row, IMPLIED, 0);
-    while b < n {
-        links += 1;
-        out[links] = 0x3000_0000 + b as u32;
-        b = bits::next_new(w, row, IMPLIED, b + 1);
+    let mut i = 0;
+    while i < 8 {
+        let old = implied[i];
+        links = write_word((w[row + i] | old) ^ old, 32 * i, links, out);
+        i += 1;
     }
     if links != 0 {
         out[0] = 0x2000_0000 + a as u32;
@@ -48,21 +94,18 @@ fn write_row(w: &[u32], n: usize, a: usize, out: &mut [u32]) -> usize
 }
 
 // The links of `a` that stay, written.
-fn trim_row(n: usize, a: usize, out: &mut [u32], w: &mut [u32]) -> usize
+fn trim_row(w: &[u32], n: usize, a: usize, out: &mut [u32]) -> usize
     requires { ⌜ ((g : Graph) × Held g n (now w) × (length (group a (linkedTo a (trimmed g .links) n)) < length (now out))) × (a < n) ⌝ }
     ensures { λ r. ⌜ ((g : Graph) → Held g n (now (w .entry))
-        → Held g n (now (w .exit)) × GroupWritten a (linkedTo a (trimmed g .links) n) (now (out .entry)) (now (out .exit)) r) ⌝ }
+        → GroupWritten a (linkedTo a (trimmed g .links) n) (now (out .entry)) (now (out .exit)) r) ⌝ }
 {
-    note_implied(w, a);
-    let links = write_row(w, n, a, out);
-    let row = IMPLIED;
-    let end = row + 8;
-    bits::clear(&mut w[row..end]);
-    links
+    let mut implied = [0u32; 8];
+    note_implied(w, a, &mut implied);
+    write_row(w, a, &implied, out)
 }
 
 // Writes the groups of all episodes behind the first word.
-fn write_rows(n: usize, out: &mut [u32], w: &mut [u32]) -> Written
+fn write_rows(w: &[u32], n: usize, out: &mut [u32]) -> Written
     requires { ⌜ ((g : Graph) × Held g n (now w) × (length (trimmedWords g) ≤ length (now out))) ⌝ }
     ensures { λ r. ⌜ ((g : Graph) → Held g n (now (w .entry)) → length (trimmedWords g) ≤ length (now (out .entry))
         → GroupsWritten (trimmed g) (now (out .entry)) (now (out .exit)) (r .words) (r .links)) ⌝ }
@@ -71,7 +114,7 @@ fn write_rows(n: usize, out: &mut [u32], w: &mut [u32]) -> Written
     let mut links = 0;
     let mut a = 0;
     while a < n {
-        let more = trim_row(n, a, &mut out[words..], w);
+        let more = trim_row(w, n, a, &mut out[words..]);
         words += copying::group_words(more);
         links += more;
         a += 1;
@@ -80,12 +123,12 @@ fn write_rows(n: usize, out: &mut [u32], w: &mut [u32]) -> Written
 }
 
 // Writes the trimmed copy of a graph with `n` episodes, from its links and ways, and gives its count of words.
-pub fn write_trimmed(n: usize, out: &mut [u32], w: &mut [u32]) -> usize
+pub fn write_trimmed(w: &[u32], n: usize, out: &mut [u32]) -> usize
     requires { ⌜ ((g : Graph) × Held g n (now w) × (length (trimmedWords g) ≤ length (now out))) ⌝ }
     ensures { λ r. ⌜ ((g : Graph) → Held g n (now (w .entry)) → length (trimmedWords g) ≤ length (now (out .entry))
         → (r ≡ length (trimmedWords g)) × BeginsWith (trimmedWords g) (now (out .entry)) (now (out .exit))) ⌝ }
 {
-    let groups = write_rows(n, out, w);
+    let groups = write_rows(w, n, out);
     let words = groups.words;
     let links = groups.links;
     copying::write_ends(n, words, links, out);

@@ -46,13 +46,13 @@ same-length-4 c = search needs
 
 returns-2 : tie.Need-returns-2
 returns-2 c = λ g ready room.
-    let written = c .before .before .before .before in
+    let written = c .before .before in
     let at = written .before .before .before .before .before .before .before .before in
     let sought = at .show-loop .ensures g ready in
     let none = sought .none (omega arith) in
     let (count, begins) =
     written .write-trimmed .ensures g (held (still-ready sought (omega arith) ready) room) (omega (arith, ap length (none .1), room .copy)) in
-    (none .0, sym count, subst (λ (o : List ℕ). BeginsWith (trimmedWords g) o (written .write-trimmed .last .1 .0)) (none .1) begins)
+    (none .0, sym count, subst (λ (o : List ℕ). BeginsWith (trimmedWords g) o (written .write-trimmed .last .1 .1 .0)) (none .1) begins)
 
 pub answer-spec : {M : Type 1} → statement M
 answer-spec =

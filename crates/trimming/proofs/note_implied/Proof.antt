@@ -1,53 +1,65 @@
--- `trimming::note_implied` meets its contract. The invariant: the row behind the ways has the ways of the links of `a` below `b`. The measure
--- is what is left of the row.
+-- `trimming::note_implied` meets its contract. The invariant: the ways of the links in the first `i` words are noted.
 -- Assumes nothing.
+use mathlib.Core.Path.{ap}
 use Prim.Native.Nat.{_-_}
 use native.Mathlib.Omega.{arith}
-use Rattle.trimming.proofs.Implying.{Noting, noting-start, noting-on, noting-end}
+use lib.ListN.{length}
+use Rattle.trimming.proofs.Joining.{Noting, noting-start, noting-on, noting-end}
 use Rattle.trimming.proofs.note_implied.Statement.{statement}
 use Rattle.trimming.proofs.note_implied.Tie as tie
 
 abbrev Inv-loop : tie.InvT-loop
-Inv-loop w₀ a links b₀ w b = Noting w₀ w a b
+Inv-loop w a implied₀ row i₀ implied i = Noting w implied a i
 
 abbrev μ-loop : tie.MeasureT-loop
-μ-loop w₀ a links b₀ w b = 256 - b
+μ-loop w a implied₀ row i₀ implied i = 8 - i
 
-mul-links : tie.Need-mul-links Inv-loop μ-loop
-mul-links c = omega arith
+mul-row : tie.Need-mul-row Inv-loop μ-loop
+mul-row c = omega arith
 
-add-links : tie.Need-add-links Inv-loop μ-loop
-add-links c = omega arith
-
-next-new-requires : tie.Need-next-new-requires Inv-loop μ-loop
-next-new-requires c κs = omega arith
+add-row : tie.Need-add-row Inv-loop μ-loop
+add-row c = omega arith
 
 loop-holds : tie.Need-loop-holds Inv-loop μ-loop
 loop-holds c =
-    let s = c .before .before .before in
-    noting-start (s .args .w .now) (s .args .a) (c .next-new .result) (s .pre .1) (c .next-new .ensures)
+    let s = c .before .before in
+    noting-start (s .args .w .now) (s .args .implied .now) (s .args .a) (s .pre .2)
 
-join-row-requires : tie.Need-join-row-requires Inv-loop μ-loop
-join-row-requires c κs = omega arith
+mul-old : tie.Need-mul-old Inv-loop μ-loop
+mul-old c = omega arith
 
-add-next-new : tie.Need-add-next-new Inv-loop μ-loop
-add-next-new c = omega arith
+slice-read-old : tie.Need-slice-read-old Inv-loop μ-loop
+slice-read-old c = omega arith
 
-next-new-requires-2 : tie.Need-next-new-requires-2 Inv-loop μ-loop
-next-new-requires-2 c κs = omega arith
+add-join-ways : tie.Need-add-join-ways Inv-loop μ-loop
+add-join-ways c = omega arith
+
+mul-join-ways : tie.Need-mul-join-ways Inv-loop μ-loop
+mul-join-ways c = omega arith
+
+shared-slice-read-join-ways : tie.Need-shared-slice-read-join-ways Inv-loop μ-loop
+shared-slice-read-join-ways c = omega arith
+
+mul-join-ways-2 : tie.Need-mul-join-ways-2 Inv-loop μ-loop
+mul-join-ways-2 c = omega arith
+
+join-ways-requires : tie.Need-join-ways-requires Inv-loop μ-loop
+join-ways-requires c κs = omega arith
+
+add-i : tie.Need-add-i Inv-loop μ-loop
+add-i c = omega arith
 
 loop-less : tie.Need-loop-less Inv-loop μ-loop
-loop-less c = omega (arith, c .next-new2 .ensures .at-least)
+loop-less c = omega arith
 
 loop-again : tie.Need-loop-again Inv-loop μ-loop
 loop-again c =
-    let join = c .before .before .before .before in
-    let at = join .before .before .before in
-    let s = at .before .before .before .before in
-    noting-on (s .pre .1) (omega arith) (at .loop .inv) (join .join-row .ensures) (c .next-new2 .ensures)
+    let at = c .before .before .before .before .before .before .before in
+    let s = at .before .before .before in
+    noting-on (s .pre .1) (omega arith) (at .loop .inv) (c .before .before .join-ways .ensures)
 
 same-length : tie.Need-same-length Inv-loop μ-loop
-same-length c = omega arith
+same-length c = omega (arith, c .before .loop .inv .size, ap length (c .before .before .before .before .pre .2))
 
 returns : tie.Need-returns Inv-loop μ-loop
 returns c = noting-end (omega arith) (c .before .loop .inv)
@@ -58,13 +70,17 @@ note-implied-spec =
     (tie.spec
     Inv-loop
     μ-loop
-    mul-links
-    add-links
-    next-new-requires
+    mul-row
+    add-row
     loop-holds
-    join-row-requires
-    add-next-new
-    next-new-requires-2
+    mul-old
+    slice-read-old
+    add-join-ways
+    mul-join-ways
+    shared-slice-read-join-ways
+    mul-join-ways-2
+    join-ways-requires
+    add-i
     loop-less
     loop-again
     same-length

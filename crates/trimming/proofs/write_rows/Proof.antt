@@ -1,5 +1,5 @@
--- `trimming::write_rows` meets its contract. The invariant: the groups of the episodes below `a` stand behind the first word, and the work
--- words still hold the links and the ways. The measure is how many episodes are left.
+-- `trimming::write_rows` meets its contract. The invariant: the groups of the episodes below `a` stand behind the first word. The measure is how
+-- many episodes are left.
 -- Assumes nothing.
 use mathlib.Core.Path.{_≡_, refl, _∙_}
 use mathlib.Core.List.{List}
@@ -28,15 +28,14 @@ use Rattle.trimming.proofs.write_rows.Statement.{statement}
 use Rattle.trimming.proofs.write_rows.Tie as tie
 
 abbrev Inv-loop : tie.InvT-loop
-Inv-loop n out₀ w₀ words₀ links₀ a₀ out w words links a =
-    (length w ≡ length w₀)
-    × ((g : Graph) → Held g n w₀ → length (trimmedWords g) ≤ length out₀ → Held g n w × Copying (trimmed g) out₀ out words links a)
+Inv-loop w n out₀ words₀ links₀ a₀ out words links a =
+    (g : Graph) → Held g n w → length (trimmedWords g) ≤ length out₀ → Copying (trimmed g) out₀ out words links a
 
 abbrev μ-loop : tie.MeasureT-loop
-μ-loop n out₀ w₀ words₀ links₀ a₀ out w words links a = n - a
+μ-loop w n out₀ words₀ links₀ a₀ out words links a = n - a
 
 loop-holds : tie.Need-loop-holds Inv-loop μ-loop
-loop-holds c = (refl, λ g held fits. (held, copying-none (trimmed g) (c .before .before .args .out .now) fits))
+loop-holds c = λ g held fits. copying-none (trimmed g) (c .before .before .args .out .now) fits
 
 -- the entry, from the loop
 abbrev start : tie.At-loop Inv-loop μ-loop → tie.Start Inv-loop μ-loop
@@ -47,19 +46,18 @@ abbrev graph : (c : tie.At-loop Inv-loop μ-loop) → Graph
 graph c = start c .pre .0
 
 here : (c : tie.At-loop Inv-loop μ-loop)
-    → Held (graph c) (start c .args .n) (c .loop .w)
-    × Copying (trimmed (graph c)) (start c .args .out .now) (c .loop .out) (c .loop .words) (c .loop .links) (c .loop .a)
-here c = let (g, held, fits) = start c .pre in c .loop .inv .1 g held fits
+    → Copying (trimmed (graph c)) (start c .args .out .now) (c .loop .out) (c .loop .words) (c .loop .links) (c .loop .a)
+here c = let (g, held, fits) = start c .pre in c .loop .inv g held fits
 
 count : (g : Graph) {n : ℕ} {w : List ℕ} → Held g n w → trimmed g .n ≡ n
 count g held = trimmed-is g .episodes ∙ held .count
 
 -- the words have room in the output, and there are few links
 within : (c : tie.At-loop Inv-loop μ-loop) → c .loop .words ≤ length (c .loop .out)
-within c = copying-at (here c .1) (start c .pre .2)
+within c = copying-at (here c) (start c .pre .2)
 
 same-out : (c : tie.At-loop Inv-loop μ-loop) → length (c .loop .out) ≡ length (start c .args .out .now)
-same-out c = copying-length (here c .1) (start c .pre .2)
+same-out c = copying-length (here c) (start c .pre .2)
 
 few-links : (c : tie.At-loop Inv-loop μ-loop) {o o′ : List ℕ} {r : ℕ}
     → GroupWritten (c .loop .a) (linkedTo (c .loop .a) (trimmed (graph c) .links) (start c .args .n)) o o′ r → r < 2 ^ 28
@@ -70,7 +68,7 @@ few-links c {r = r} g =
 all-few : (c : tie.At-loop Inv-loop μ-loop) → c .loop .links < 2 ^ 28
 all-few c =
     omega
-    (arith, here c .1 .count, length-group-links (trimmed (graph c)) (c .loop .a), trimmed-few (graph c), start c .pre .1 .small)
+    (arith, here c .count, length-group-links (trimmed (graph c)) (c .loop .a), trimmed-few (graph c), start c .pre .1 .small)
 
 mul-trim-row : tie.Need-mul-trim-row Inv-loop μ-loop
 mul-trim-row c = omega (arith, within (c .before), same-out (c .before))
@@ -86,28 +84,28 @@ part-trim-row-end c = omega arith
 
 trim-row-requires : tie.Need-trim-row-requires Inv-loop μ-loop
 trim-row-requires c κs =
-    let at = c .before .before .before in
-    let (held, copying) = here at in
-    ((graph at, held, copying-room copying (start at .pre .2) _ (count (graph at) held) (omega arith)), omega arith)
+    let at = c .before .before in
+    let (g, held, fits) = start at .pre in
+    ((g, held, copying-room (here at) fits _ (count g held) (omega arith)), omega arith)
 
 group-words-requires : tie.Need-group-words-requires Inv-loop μ-loop
 group-words-requires c κs =
-    let row = c .before .before .before .before in
-    let at = row .before .before .before .before in
-    few-links at (row .trim-row .ensures (graph at) (here at .0) .1)
+    let row = c .before .before in
+    let at = row .before .before .before in
+    few-links at (row .trim-row .ensures (graph at) (start at .pre .1))
 
 add-words : tie.Need-add-words Inv-loop μ-loop
 add-words c =
-    let row = c .before .before .before .before .before in
-    let at = row .before .before .before .before in
-    let few = few-links at (row .trim-row .ensures (graph at) (here at .0) .1) in
+    let row = c .before .before .before in
+    let at = row .before .before .before in
+    let few = few-links at (row .trim-row .ensures (graph at) (start at .pre .1)) in
     omega (arith, within at, same-out at, group-length-few (row .trim-row .result), c .group-words .ensures)
 
 add-links : tie.Need-add-links Inv-loop μ-loop
 add-links c =
-    let row = c .before .before .before .before .before in
-    let at = row .before .before .before .before in
-    let few = few-links at (row .trim-row .ensures (graph at) (here at .0) .1) in
+    let row = c .before .before .before in
+    let at = row .before .before .before in
+    let few = few-links at (row .trim-row .ensures (graph at) (start at .pre .1)) in
     omega (arith, all-few at)
 
 add-a : tie.Need-add-a Inv-loop μ-loop
@@ -118,25 +116,16 @@ loop-less c = omega arith
 
 loop-again : tie.Need-loop-again Inv-loop μ-loop
 loop-again c =
-    let row = c .before .before .before .before .before in
-    let at = row .before .before .before .before in (
-      omega arith,
-      λ g before fits.
-          let (held, copying) = at .loop .inv .1 g before fits in
-          let (again, group) = row .trim-row .ensures g held in
-          (again, copying-on copying fits _ (count g held) (omega arith) group refl (c .group-words .ensures)),
-    )
+    let row = c .before .before .before in
+    let at = row .before .before .before in
+    λ g held fits.
+    copying-on (at .loop .inv g held fits) fits _ (count g held) (omega arith) (row .trim-row .ensures g held) refl (c .group-words .ensures)
 
 same-length : tie.Need-same-length Inv-loop μ-loop
 same-length c = same-out (c .before)
 
-same-length-2 : tie.Need-same-length-2 Inv-loop μ-loop
-same-length-2 c = c .before .loop .inv .0
-
 returns : tie.Need-returns Inv-loop μ-loop
-returns c = λ g before fits.
-    let (held, copying) = c .before .loop .inv .1 g before fits in
-    copying-all copying fits _ (count g held) (omega arith)
+returns c = λ g held fits. copying-all (c .before .loop .inv g held fits) fits _ (count g held) (omega arith)
 
 pub write-rows-spec : {M : Type 1} → statement M
 write-rows-spec =
@@ -157,5 +146,4 @@ write-rows-spec =
     loop-less
     loop-again
     same-length
-    same-length-2
     returns)

@@ -18,21 +18,21 @@ write-rows-requires c κs = search needs
 
 -- the entry, from the place behind the groups
 abbrev start : tie.After-write-rows → tie.Start
-start c = c .before .before .before .before .before
+start c = c .before .before .before .before
 
 -- the groups of a graph that the work words hold, and the room behind them
 groups : (c : tie.After-write-rows)
-    → GroupsWritten (trimmed (start c .pre .0)) (start c .args .out .now) (c .write-rows .last .1 .0) (c .write-rows .result .words) (c .write-rows .result .links)
+    → GroupsWritten (trimmed (start c .pre .0)) (start c .args .out .now) (c .write-rows .last .1 .1 .0) (c .write-rows .result .words) (c .write-rows .result .links)
 groups c = let (g, held, fits) = start c .pre in c .write-rows .ensures g held fits
 
-room : (c : tie.After-write-rows) → c .write-rows .result .words < length (c .write-rows .last .1 .0)
+room : (c : tie.After-write-rows) → c .write-rows .result .words < length (c .write-rows .last .1 .1 .0)
 room c =
     let (g, held, fits) = start c .pre in
-    end-room (trimmed g) (start c .args .out .now) (c .write-rows .last .1 .0) (c .write-rows .result .words) (c .write-rows .result .links) fits (groups c)
+    end-room (trimmed g) (start c .args .out .now) (c .write-rows .last .1 .1 .0) (c .write-rows .result .words) (c .write-rows .result .links) fits (groups c)
 
 write-ends-requires : tie.Need-write-ends-requires
 write-ends-requires c κs =
-    let at = c .before .before .before .before .before in
+    let at = c .before .before .before in
     let (g, held, fits) = start at .pre in (
       omega (arith, held .few),
       omega (arith, groups at .link-count, length-group-links (trimmed g) (trimmed g .n), trimmed-few g, held .small),
@@ -41,21 +41,18 @@ write-ends-requires c κs =
 
 add-result : tie.Need-add-result
 add-result c =
-    let at = c .before .before .before .before .before .before .before .before in
+    let at = c .before .before .before .before .before .before in
     omega (arith, room at)
 
 same-length : tie.Need-same-length
 same-length c = search needs
 
-same-length-2 : tie.Need-same-length-2
-same-length-2 c = search needs
-
 returns : tie.Need-returns
 returns c = λ g held fits.
-    let at = c .before .before .before .before .before .before .before .before in
+    let at = c .before .before .before .before .before .before in
     let written = at .write-rows in
     rw (c .before .before .write-ends .ensures)
-    (copy-whole (trimmed g) (start at .args .out .now) (written .last .1 .0) (written .result .words) (written .result .links)
+    (copy-whole (trimmed g) (start at .args .out .now) (written .last .1 .1 .0) (written .result .words) (written .result .links)
     fits (written .ensures g held fits) _ (trimmed-is g .episodes ∙ held .count))
 
 pub write-trimmed-spec : {M : Type 1} → statement M
@@ -66,5 +63,4 @@ write-trimmed-spec =
     write-ends-requires
     add-result
     same-length
-    same-length-2
     returns)

@@ -1,0 +1,240 @@
+-- The row of what is implied, link by link: it has the ways of the links so far, and is closed under ways, so that a link that is in it has
+-- nothing to add.
+use mathlib.Core.Path.{_≡_, refl, sym, ap, _∙_}
+use mathlib.Core.Logic.{_⊎_, inl, inr, ⊎-elim}
+use mathlib.Core.List.{List}
+use Prim.Native.Nat.{ℕ, _+_, _-_, _*_, _/_, _%_, _^_, _≤_, _<_, max}
+use native.Mathlib.Decide.{ℕ-discrete, decLt}
+use native.Mathlib.Omega.{arith}
+use lib.Bits.{bitOr, bitXor}
+use lib.Count.{trailingZeros}
+use lib.ListN.{length, getD, set, replicate, length-set, getD-replicate}
+use lib.Seq.{getD-set-same, getD-set-other}
+use Rattle.paths.specs.Graph.{Graph, Link, Way}
+use Rattle.paths.specs.Trimmed.{Implied}
+use Rattle.paths.proofs.Ways.{way-trans}
+use Rattle.bits.specs.Bits.{digit, bit}
+use Rattle.bits.specs.Work.{linksAt, waysAt, nextAt, Matrix}
+use Rattle.bits.proofs.Digits.{digit-or, digit-lt, Rest, rest-start, rest-here, rest-below, rest-least, rest-on, rest-none, rest-end}
+use Rattle.bits.proofs.Rows.{bit-lt, bit-digit, bits-zero, fresh, fresh-one, digit-fresh}
+use Rattle.trimming.specs.Trimming.{Held, RowAdded, WaysAdded, HoldsImplied}
+
+-- ---- one row joined
+
+-- the first `i` words are joined
+pub record Adding (w : List ℕ) (row : ℕ) (v v′ : List ℕ) (i : ℕ) : Type 0 where
+  pub same-length : length v′ ≡ length v
+  pub at-most : i ≤ 8
+  pub done : (j : ℕ) → j < i → getD v′ j 0 ≡ bitOr (getD v j 0) (getD w (row + j) 0)
+  pub left : (j : ℕ) → i ≤ j → getD v′ j 0 ≡ getD v j 0
+
+pub adding-start : (w : List ℕ) (row : ℕ) (v : List ℕ) → Adding w row v v 0
+adding-start w row v = record { same-length = refl; at-most = omega arith; done = λ j h. absurd (omega arith); left = λ j h. refl }
+
+pub adding-on : (w : List ℕ) (row : ℕ) (v v′ : List ℕ) (i : ℕ) → i < 8 → length v ≡ 8 → Adding w row v v′ i
+    → Adding w row v (set v′ i (bitOr (getD v′ i 0) (getD w (row + i) 0))) (i + 1)
+adding-on w row v v′ i h long s =
+    record {
+      same-length = length-set v′ i x ∙ s .same-length;
+      at-most = omega arith;
+      done = λ j l. done j l (ℕ-discrete j i);
+      left = λ j l. getD-set-other v′ i j x 0 (λ e. absurd (omega arith)) ∙ s .left j (omega arith);
+    }
+  where
+    x : ℕ
+    x = bitOr (getD v′ i 0) (getD w (row + i) 0)
+
+    done : (j : ℕ) → j < i + 1 → Dec (j ≡ i) → getD (set v′ i x) j 0 ≡ bitOr (getD v j 0) (getD w (row + j) 0)
+    done j l (yes e) =
+        rw e (getD-set-same v′ i x 0 (omega (arith, s .same-length)) ∙ ap (λ (y : ℕ). bitOr y (getD w (row + i) 0)) (s .left i (omega arith)))
+    done j l (no ne) = getD-set-other v′ i j x 0 ne ∙ s .done j (omega (arith, ne))
+
+pub adding-end : (w : List ℕ) (row : ℕ) (v v′ : List ℕ) (i : ℕ) → 8 ≤ i → Adding w row v v′ i → RowAdded w row v v′
+unfolding bit
+adding-end w row v v′ i h s =
+    record {
+      same-length = s .same-length;
+      joined = λ c hc.
+          let e : 0 + c / 32 ≡ c / 32 = omega arith in
+          rw e (ap (λ (x : ℕ). digit x (c % 32)) (s .done (c / 32) (omega arith)) ∙ digit-or _ _ (c % 32));
+    }
+
+-- ---- the rows of the bits of a word joined
+
+-- after the digits below `k`
+pub record Taking (w : List ℕ) (x first : ℕ) (v v′ : List ℕ) (rest : ℕ) : Type 0 where
+  pub same-length : length v′ ≡ length v
+  k : ℕ
+  pub digits : Rest x rest k
+  old : (c : ℕ) → c < 256 → bit v 0 c ≡ 1 → bit v′ 0 c ≡ 1
+  new : (j c : ℕ) → j < k → c < 256 → digit x j ≡ 1 → bit w (waysAt + 8 * (first + j)) c ≡ 1 → bit v′ 0 c ≡ 1
+  no-other : (c : ℕ) → c < 256 → bit v′ 0 c ≡ 1
+      → (bit v 0 c ≡ 1) ⊎ ((j : ℕ) × (j < 32) × (digit x j ≡ 1) × (bit w (waysAt + 8 * (first + j)) c ≡ 1))
+
+pub taking-start : (w : List ℕ) (x first : ℕ) (v : List ℕ) → x < 2 ^ 32 → Taking w x first v v x
+taking-start w x first v h =
+    record {
+      same-length = refl;
+      k = 0;
+      digits = rest-start x h;
+      old = λ c hc o. o;
+      new = λ j c l. absurd (omega arith);
+      no-other = λ c hc o. inl o;
+    }
+
+module _ {w v v′ u : List ℕ} {x first rest : ℕ} (s : Taking w x first v v′ rest) (some : 0 < rest)
+    (q : RowAdded w (waysAt + 8 * (first + trailingZeros 32 rest)) v′ u) where
+  t : ℕ
+  t = trailingZeros 32 rest
+
+  kept : (c : ℕ) → c < 256 → bit v′ 0 c ≡ 1 → bit u 0 c ≡ 1
+  kept c hc o = omega (arith, q .joined c hc, bit-lt w (waysAt + 8 * (first + trailingZeros 32 rest)) c)
+
+  here : (c : ℕ) → c < 256 → bit w (waysAt + 8 * (first + trailingZeros 32 rest)) c ≡ 1 → bit u 0 c ≡ 1
+  here c hc o = omega (arith, q .joined c hc, bit-lt v′ 0 c)
+
+  pub taking-on : Taking w x first v u (bitXor rest (1 * 2 ^ trailingZeros 32 rest % 4294967296))
+  taking-on =
+      record {
+        same-length = q .same-length ∙ s .same-length;
+        k = trailingZeros 32 rest + 1;
+        digits = rest-on (s .digits) some;
+        old = λ c hc o. kept c hc (s .old c hc o);
+        new = λ j c l hc d o. new j c l hc d o (decLt j (s .k)) (ℕ-discrete j (trailingZeros 32 rest));
+        no-other = λ c hc o. no-other c hc o (ℕ-discrete (bit v′ 0 c) 1);
+      }
+    where
+      new : (j c : ℕ) → j < trailingZeros 32 rest + 1 → c < 256 → digit x j ≡ 1 → bit w (waysAt + 8 * (first + j)) c ≡ 1 → Dec (j < s .k)
+          → Dec (j ≡ trailingZeros 32 rest) → bit u 0 c ≡ 1
+      new j c l hc d o (yes h) e = kept c hc (s .new j c h hc d o)
+      new j c l hc d o (no h) (yes e) = here c hc (rw e at o)
+      new j c l hc d o (no h) (no ne) =
+          let z = rest-none (s .digits) some j (omega arith) (omega (arith, ne)) in
+          absurd (omega arith)
+
+      no-other : (c : ℕ) → c < 256 → bit u 0 c ≡ 1 → Dec (bit v′ 0 c ≡ 1)
+          → (bit v 0 c ≡ 1) ⊎ ((j : ℕ) × (j < 32) × (digit x j ≡ 1) × (bit w (waysAt + 8 * (first + j)) c ≡ 1))
+      no-other c hc o (yes e) = s .no-other c hc e
+      no-other c hc o (no ne) =
+          inr (
+            trailingZeros 32 rest,
+            rest-below (s .digits) some,
+            rest-here (s .digits) some,
+            omega (arith, ne, q .joined c hc, bit-lt v′ 0 c, bit-lt w (waysAt + 8 * (first + trailingZeros 32 rest)) c),
+          )
+
+pub taking-end : {w v v′ : List ℕ} {x first rest : ℕ} → Taking w x first v v′ rest → rest ≡ 0 → WaysAdded w x first v v′
+taking-end {w} {v} {v′} {x} {first} s e =
+    record {
+      same-length = s .same-length;
+      old = s .old;
+      new = λ j c l hc d o. new j c l hc d o (decLt j (s .k));
+      no-other = s .no-other;
+    }
+  where
+    new : (j c : ℕ) → j < 32 → c < 256 → digit x j ≡ 1 → bit w (waysAt + 8 * (first + j)) c ≡ 1 → Dec (j < s .k) → bit v′ 0 c ≡ 1
+    new j c l hc d o (yes h) = s .new j c h hc d o
+    new j c l hc d o (no h) = let z = rest-end (s .digits) e j (omega arith) in absurd (omega arith)
+
+-- ---- all links of an episode
+
+-- the row of what is implied has the ways of the links of `a` below `b`
+record Row (g : Graph) (v : List ℕ) (a b : ℕ) : Type 0 where
+  sound : (c : ℕ) → c < 256 → bit v 0 c ≡ 1 → Implied g a c
+  closed : (c d : ℕ) → c < 256 → d < 256 → bit v 0 c ≡ 1 → Way g c d → bit v 0 d ≡ 1
+  taken : (x d : ℕ) → x < b → x < 256 → d < 256 → Link g a x → Way g x d → bit v 0 d ≡ 1
+
+-- after the first `i` words of its links
+pub record Noting (w v : List ℕ) (a i : ℕ) : Type 0 where
+  pub size : length v ≡ 8
+  pub at-most : i ≤ 8
+  row : (g : Graph) (n : ℕ) → Held g n w → Row g v a (32 * i)
+
+pub noting-start : (w v : List ℕ) (a : ℕ) → v ≡ replicate 8 0 → Noting w v a 0
+noting-start w v a e =
+    let none : (c : ℕ) → c < 256 → bit v 0 c ≡ 1 → ⊥ = λ c hc o.
+    let z = bits-zero v 0 c (rw e (getD-replicate 8 (0 + c / 32) 0 0 (omega arith))) in omega arith in
+    record {
+      size = ap length e;
+      at-most = omega arith;
+      row = λ g n held.
+          record {
+            sound = λ c hc o. absurd (none c hc o);
+            closed = λ c d hc hd o y. absurd (none c hc o);
+            taken = λ x d hx. absurd (omega arith);
+          };
+    }
+
+-- the ways of one more word of links, less those that are implied, are joined
+module _ {w v v′ : List ℕ} {a i : ℕ} (ha : a < 256) (hi : i < 8) (s : Noting w v a i)
+    (q : WaysAdded w (fresh (getD w (linksAt + 8 * a + i) 0) (getD v i 0)) (32 * i) v v′) where
+  link-digit : (j : ℕ) → j < 32 → digit (getD w (linksAt + 8 * a + i) 0) j ≡ bit w (linksAt + 8 * a) (32 * i + j)
+  link-digit j h = sym (bit-digit w (linksAt + 8 * a) i j h)
+
+  old-digit : (j : ℕ) → j < 32 → digit (getD v i 0) j ≡ bit v 0 (32 * i + j)
+  old-digit j h = let e : 0 + i ≡ i = omega arith in sym (bit-digit v 0 i j h ∙ rw e)
+
+  -- a digit is one where there is a link that is not implied
+  fresh-link : (j : ℕ) → j < 32 → digit (fresh (getD w (linksAt + 8 * a + i) 0) (getD v i 0)) j ≡ 1 → bit w (linksAt + 8 * a) (32 * i + j) ≡ 1
+  fresh-link j h o =
+      let (l, n) = fresh-one _ _ (digit-lt _ j) (digit-lt _ j) (sym (digit-fresh _ _ j) ∙ o) in
+      sym (link-digit j h) ∙ l
+
+  link-fresh : (j : ℕ) → j < 32 → bit w (linksAt + 8 * a) (32 * i + j) ≡ 1 → bit v 0 (32 * i + j) ≡ 0
+      → digit (fresh (getD w (linksAt + 8 * a + i) 0) (getD v i 0)) j ≡ 1
+  link-fresh j h l n =
+      digit-fresh (getD w (linksAt + 8 * a + i) 0) (getD v i 0) j ∙ rw (link-digit j h, old-digit j h, l, n) refl
+
+  row-on : (g : Graph) (n : ℕ) → Held g n w → Row g v′ a (32 * (i + 1))
+  row-on g n held =
+      record {
+        sound = λ c hc o.
+            ⊎-elim (r .sound c hc)
+            (λ (j, hj, d, y).
+            (32 * i + j, links .sound a (32 * i + j) ha (omega arith) (fresh-link j hj d), ways .sound (32 * i + j) c (omega arith) hc y))
+            (q .no-other c hc o);
+        closed = λ c d hc hd o y.
+            ⊎-elim (λ e. q .old d hd (r .closed c d hc hd e y))
+            (λ (j, hj, e, z).
+            q .new j d hj hd e
+            (ways .complete (32 * i + j) d (omega arith) hd (way-trans (32 * i + j) c d (ways .sound (32 * i + j) c (omega arith) hc z) y)))
+            (q .no-other c hc o);
+        taken = λ x d hx lx hd l y. taken x d hx lx hd l y (decLt x (32 * i));
+      }
+    where
+      r : Row g v a (32 * i)
+      r = s .row g n held
+
+      links : Matrix linksAt w (Link g)
+      links = held .links
+
+      ways : Matrix waysAt w (Way g)
+      ways = held .ways
+
+      taken : (x d : ℕ) → x < 32 * (i + 1) → x < 256 → d < 256 → Link g a x → Way g x d → Dec (x < 32 * i) → bit v′ 0 d ≡ 1
+      taken x d hx lx hd l y (yes h) = q .old d hd (r .taken x d h lx hd l y)
+      taken x d hx lx hd l y (no h) = go (ℕ-discrete (bit v 0 x) 1)
+        where
+          place : 32 * i + (x - 32 * i) ≡ x
+          place = omega arith
+
+          go : Dec (bit v 0 x ≡ 1) → bit v′ 0 d ≡ 1
+          go (yes e) = q .old d hd (r .closed x d lx hd e y)
+          go (no ne) =
+              q .new (x - 32 * i) d (omega arith) hd
+              (link-fresh (x - 32 * i) (omega arith) (rw place (links .complete a x ha lx l)) (rw place (omega (arith, ne, bit-lt v 0 x))))
+              (rw place (ways .complete x d lx hd y))
+
+  pub noting-on : Noting w v′ a (i + 1)
+  noting-on = record { size = q .same-length ∙ s .size; at-most = omega arith; row = row-on }
+
+-- all links are had
+pub noting-end : {w v : List ℕ} {a i : ℕ} → 8 ≤ i → Noting w v a i → HoldsImplied w a v
+noting-end {a = a} h s g n held c hc =
+    let r = s .row g n held in (
+      r .sound c hc,
+      λ (x, l, y).
+          let e = held .ends a x l in
+          let lx : x < 256 = omega (arith, held .count, held .few) in
+          r .taken x c (omega arith) lx hc l y,
+    )
