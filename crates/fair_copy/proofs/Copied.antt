@@ -3,10 +3,10 @@ use mathlib.Core.Path.{_≡_, refl, sym, subst, _∙_}
 use mathlib.Core.List.{List, _++_}
 use Prim.Native.Nat.{ℕ}
 use lib.ListN.{length, take, drop}
-use lib.Seq.{take-at}
 use Rattle.log.specs.Answer.{Answer, given, refused}
 use Rattle.log.specs.Log.{questions, graphOf}
 use Rattle.log.specs.declared.Ceilings.{Ceilings}
+use Rattle.writing.proofs.Buffers.{begins-words}
 use Rattle.copying.specs.FairCopy.{fairWords, fairNeed}
 use Rattle.report.specs.Report.{cleared}
 use Rattle.fair_copy.specs.Copied.{copyAnswer, copyAsked, CopyLeft}
@@ -28,14 +28,13 @@ module _ (m : Ceilings) (l o w o′ w′ : List ℕ) where
   copied-left : (c : ℕ) → CopyLeft m l o w o′ w′ (Copied c) → CopyGiven m l o w o′ w′ c
   unfolding CopyLeft
   copied-left c (passes, count, begins, work) =
-      let ws : List ℕ = fairWords (graphOf l) in
-      let words : take c o′ ≡ ws = rw (begins .1) (take-at ws (drop (length ws) o) c count) in
+      let (words, unchanged) = begins-words (fairWords (graphOf l)) o o′ begins c count in
       record {
         passes = passes;
         read = asked-given m (λ n t. fairNeed t) l (length o) (length w) (graphOf l .n) (length (graphOf l .links)) passes .0;
         words = words;
         count = sym count;
-        unchanged = rw (words, ← count) (begins .1);
+        unchanged = unchanged;
         work = work;
       }
 

@@ -160,7 +160,11 @@ same-loops = Same.same-loops
 pub more-cover : {g h : Graph} → g .n ≡ h .n → ((a b : ℕ) → Link g a b → Link h a b) → (ts : List (List ℕ)) → Cover g ts → Cover h ts
 more-cover episodes link ts = Same.more-cover episodes link
 
--- 10. Graphs with the same episodes and the same ways have the same apart sets and furthest sets, and acyclic ones the same width.
+-- 10. Graphs with the same episodes and the same ways: if one is acyclic so is the other, they have the same apart sets and furthest sets, and
+-- acyclic ones the same width.
+pub ways-acyclic : {g h : Graph} → SameWays g h → Acyclic g → Acyclic h
+ways-acyclic = Same.ways-acyclic
+
 pub ways-apart : {g h : Graph} → SameWays g h → (s : List ℕ) → Apart g s ↔ Apart h s
 ways-apart = Same.ways-apart
 

@@ -9,23 +9,30 @@ use Prim.Native.Nat.{ℕ, _≤_, _<_}
 use native.Mathlib.Omega.{arith}
 use lib.ListN.{length, take, drop, getD}
 use Rattle.order.specs.Order.{All}
-use Rattle.paths.specs.Graph.{SameLinks, Way, Cover, Apart, Smallest, Largest, Width, Furthest, Rising, Loop}
+use Rattle.paths.specs.Graph.{Link, SameLinks, Way, Cover, Apart, Smallest, Largest, Width, Furthest, Rising, Loop}
+use Rattle.paths.specs.Trimmed.{SameWays, Stays}
 use Rattle.paths.proofs.Theorems as graphs
 use Rattle.log.specs.Words.{kind, number, word}
 use Rattle.log.specs.Answer.{given, refused}
 use Rattle.log.specs.Log.{questions, graphOf}
 use Rattle.log.specs.declared.Ceilings.{Ceilings}
+use Rattle.log.proofs.Laws.{links-below}
 use Rattle.writing.specs.Layout.{reportWords, loopWords, reportNeed, apartOf, threadsOf, BeginsWith}
 use Rattle.parsing.specs.Whole.{IsReport, Whole, ThreadNumber, ThreadSteps}
 use Rattle.parsing.proofs.Wholes.{report-read}
 use Rattle.copying.specs.FairCopy.{fairWords, fairNeed}
 use Rattle.copying.proofs.FairCopies as fair
+use Rattle.trimming.specs.TrimmedCopy.{trimmedWords}
+use Rattle.trimming.proofs.TrimmedCopies as trimming
 use Rattle.report.specs.Report.{outcomeAnswer, asked, cleared, Paired, Reported, LoopShown, Passes, Left}
 use Rattle.report.specs.Accepted.{Accepted, LentEnough}
 use Rattle.report.specs.declared.Outcome.{Outcome}
 use Rattle.fair_copy.specs.Copied.{copyAnswer, copyAsked, CopyLeft}
 use Rattle.fair_copy.specs.declared.CopyOutcome.{CopyOutcome}
 use Rattle.fair_copy.proofs.Copied as copies
+use Rattle.trimmed_copy.specs.Trimmed.{trimAnswer, TrimPasses, TrimLeft}
+use Rattle.trimmed_copy.specs.declared.TrimOutcome.{TrimOutcome}
+use Rattle.trimmed_copy.proofs.Trimmed as trims
 use Rattle.promises.proofs.ThreadsLeft as threads
 use Rattle.promises.proofs.SmallLogs as small
 use Rattle.promises.proofs.SmallLogs.{Right, rows}
@@ -250,3 +257,126 @@ module _ (m : Ceilings) (l o w o′ w′ : List ℕ) (r : Outcome) (left : Left 
       let same : k ≡ length (threadsOf (take c o′)) = graphs.width-unique k _ width (both-width m l o w o′ w′ r left c e .0) in
       let given-thread = thread-given (take c o′) i n s number-asked steps-asked _ _ report-whole (omega arith) in
       (given-thread .0, given-thread .2)
+
+-- 8. Of every trimmed copy call: `TrimLeft m l o w o′ w′ r` is its contract, and `trimAnswer` gives the scope's numbers. The copy's words are the
+-- first `c` of the output. Its questions 1 to 12 are those of a fair copy call.
+module _ (m : Ceilings) (l o w o′ w′ : List ℕ) (r : TrimOutcome) (left : TrimLeft m l o w o′ w′ r) where
+  -- A trimmed copy is given exactly when questions 1 to 12 are answered yes and the log's graph has no loop.
+  pub trim-exactly : ((c : ℕ) × (trimAnswer r ≡ given c)) ↔ (TrimPasses m l (length o) (length w) × ((c : List ℕ) → Loop (graphOf l) c → ⊥))
+  trim-exactly = (
+    λ (c, e). let d = trims.given-left m l o w o′ w′ r c left e in (d .passes, trims.given-no-loop m l o w o′ w′ c d),
+    λ (passes, none). trims.no-loop-given m l o w o′ w′ r passes none left,
+  )
+
+  -- The outcome is refusal 13 exactly when they are answered yes and the graph has a loop.
+  pub trim-loop-exactly : ((k : ℕ) × (trimAnswer r ≡ refused 13 k))
+      ↔ (TrimPasses m l (length o) (length w) × ((c : List ℕ) × Loop (graphOf l) c))
+  trim-loop-exactly = (
+    λ (k, e).
+        let (passes, (c, shown, count, begins), work) = trims.refused-left m l o w o′ w′ r k left e in
+        (passes, (c, shown .loop)),
+    λ (passes, (c, loop)). trims.loop-refused m l o w o′ w′ r c passes loop left,
+  )
+
+  -- Then the output begins with a loop's words, its smallest episode first, and is unchanged behind them. The place is the loop's length.
+  -- The first 16,384 work words are zero and the others unchanged.
+  pub trim-loop-shown : (k : ℕ) → trimAnswer r ≡ refused 13 k
+      → ((c : List ℕ) × LoopShown (graphOf l) c × (length c ≡ k) × BeginsWith (loopWords c) o o′) × (w′ ≡ cleared w)
+  trim-loop-shown k e = let d = trims.refused-left m l o w o′ w′ r k left e in (d .1, d .2)
+
+  -- The outcome is refusal 1 to 12 exactly when questions 1 to 12 refuse with that number and place. It changes no buffer.
+  pub trim-refused-exactly : (q p : ℕ) → q ≤ 12 → (trimAnswer r ≡ refused q p) ↔ (copyAsked m l (length o) (length w) ≡ refused q p)
+  trim-refused-exactly q p h = (λ e. trims.refused-asked m l o w o′ w′ r q p h left e .0, trims.asked-refused m l o w o′ w′ r q p left)
+
+  pub trim-refused-unchanged : (q p : ℕ) → q ≤ 12 → trimAnswer r ≡ refused q p → (o′ ≡ o) × (w′ ≡ w)
+  trim-refused-unchanged q p h e = let d = trims.refused-asked m l o w o′ w′ r q p h left e in (d .1, d .2)
+
+module _ (m : Ceilings) (l o w o′ w′ : List ℕ) (r : TrimOutcome) (left : TrimLeft m l o w o′ w′ r) (c : ℕ) (e : trimAnswer r ≡ given c) where
+  -- what the proofs below cite
+  trim : trims.TrimGiven m l o w o′ w′ c
+  trim = trims.given-left m l o w o′ w′ r c left e
+
+  -- The words are those of the trimmed copy. Behind them the output is unchanged; the first 16,384 work words are zero and the others unchanged.
+  pub trim-words : (take c o′ ≡ trimmedWords (graphOf l)) × (o′ ≡ take c o′ ++ drop c o) × (w′ ≡ cleared w)
+  trim-words = (trim .words, trim .unchanged, trim .work)
+
+  -- They are at most 2 + 2t, t being the to words of the log.
+  pub trim-fits : c ≤ fairNeed (length (graphOf l .links))
+  trim-fits = rw (trim .count) (trimming.trim-fits m l _ _ (trim .read))
+
+  -- Read back as a log they pass questions 1 to 10, with the same n and a to word for each link; and the ways are the same.
+  pub trim-read-back : (questions m (take c o′) ≡ given (graphOf l .n, length (graphOf (take c o′) .links)))
+      × SameWays (graphOf l) (graphOf (take c o′))
+  trim-read-back =
+      let same = trimming.trim-ways m l _ _ (trim .read) (trim .acyclic) in
+      let read = calls.read-graph m (trimmedWords (graphOf l)) _ _ (trimming.trim-read m l _ _ (trim .read)) in
+      rw (trim .words) (read ∙ ap (λ (k : ℕ). given (k, length (graphOf (trimmedWords (graphOf l)) .links))) (sym (same .episodes)), same)
+
+  -- The links are those that stay: each is the only thread from its first episode to its second. None is repeated, and there is no loop.
+  pub trim-links : (a b : ℕ) → Link (graphOf (take c o′)) a b ↔ Stays (graphOf l) a b
+  trim-links a b = rw (trim .words) (trimming.trim-is m l _ _ (trim .read) .links a b)
+
+  pub trim-once : List·Nodup (graphOf (take c o′) .links)
+  trim-once = rw (trim .words) (trimming.trim-once m l _ _ (trim .read))
+
+  pub trim-no-loop : (k : List ℕ) → Loop (graphOf (take c o′)) k → ⊥
+  trim-no-loop k loop = graphs.ways-acyclic (trim-read-back .1) (trim .acyclic) (loop .first) (graphs.loop-to-way loop)
+
+  -- So the log and its trimmed copy have the same apart sets, width and furthest apart set, and every cover of the copy is a cover of the log.
+  pub trim-apart : (s : List ℕ) → Apart (graphOf l) s ↔ Apart (graphOf (take c o′)) s
+  trim-apart = graphs.ways-apart (trim-read-back .1)
+
+  pub trim-furthest : (s : List ℕ) → Furthest (graphOf l) s ↔ Furthest (graphOf (take c o′)) s
+  trim-furthest = graphs.ways-furthest (trim-read-back .1)
+
+  pub trim-width : (k : ℕ) → Width (graphOf l) k ↔ Width (graphOf (take c o′)) k
+  trim-width =
+      graphs.ways-width (links-below m l _ _ (trim .read)) (links-below m (take c o′) _ _ (trim-read-back .0)) (trim .acyclic) (trim-read-back .1)
+
+  pub trim-cover : (ts : List (List ℕ)) → Cover (graphOf (take c o′)) ts → Cover (graphOf l) ts
+  trim-cover = graphs.more-cover (sym (trim-read-back .1 .episodes)) (λ a b k. trim-links a b .0 k .link)
+
+  -- It is the least: every log with the same n and the same ways has each of its links.
+  pub trim-least : (l₂ : List ℕ) → SameWays (graphOf l) (graphOf l₂) → (a b : ℕ) → Link (graphOf (take c o′)) a b → Link (graphOf l₂) a b
+  trim-least l₂ same a b k = graphs.trimmed-least (links-below m l _ _ (trim .read)) same a b (trim-links a b .0 k)
+
+  -- A second call, at any ceilings and with any buffers, that gives a trimmed copy too.
+  module _ (m₂ : Ceilings) (l₂ o₂ w₂ o₂′ w₂′ : List ℕ) (r₂ : TrimOutcome) (left₂ : TrimLeft m₂ l₂ o₂ w₂ o₂′ w₂′ r₂) (c₂ : ℕ)
+      (e₂ : trimAnswer r₂ ≡ given c₂) where
+    -- what the proofs below cite
+    second : trims.TrimGiven m₂ l₂ o₂ w₂ o₂′ w₂′ c₂
+    second = trims.given-left m₂ l₂ o₂ w₂ o₂′ w₂′ r₂ c₂ left₂ e₂
+
+    -- The two trimmed copies are equal exactly when n and the ways agree.
+    pub trims-equal : (take c o′ ≡ take c₂ o₂′) ↔ SameWays (graphOf l) (graphOf l₂)
+    trims-equal =
+        rw (trim .words, second .words)
+        (trimming.trims-equal m m₂ l l₂ _ _ _ _ (trim .read) (second .read) (trim .acyclic) (second .acyclic))
+
+    -- The trimmed copy of a trimmed copy is the trimmed copy.
+    pub trim-again : l₂ ≡ take c o′ → take c₂ o₂′ ≡ take c o′
+    trim-again is-trim = rw (second .words, is-trim, trim .words) (trimming.trim-again m l _ _ (trim .read) (trim .acyclic))
+
+  -- A fair copy call, at any ceilings and with any buffers, that gives a copy.
+  module _ (m₂ : Ceilings) (l₂ o₂ w₂ o₂′ w₂′ : List ℕ) (r₂ : CopyOutcome) (left₂ : CopyLeft m₂ l₂ o₂ w₂ o₂′ w₂′ r₂) (c₂ : ℕ)
+      (e₂ : copyAnswer r₂ ≡ given c₂) where
+    -- what the proofs below cite
+    fair-second : copies.CopyGiven m₂ l₂ o₂ w₂ o₂′ w₂′ c₂
+    fair-second = copies.given-left m₂ l₂ o₂ w₂ o₂′ w₂′ r₂ c₂ left₂ e₂
+
+    -- The fair copy of a trimmed copy is the trimmed copy itself.
+    pub trim-fair : l₂ ≡ take c o′ → take c₂ o₂′ ≡ take c o′
+    trim-fair is-trim = rw (fair-second .words, is-trim, trim .words) (trimming.trim-fair m l _ _ (trim .read))
+
+    -- The trimmed copy of a fair copy is that of the log: a third call, on the fair copy.
+    module _ (m₃ : Ceilings) (l₃ o₃ w₃ o₃′ w₃′ : List ℕ) (r₃ : TrimOutcome) (left₃ : TrimLeft m₃ l₃ o₃ w₃ o₃′ w₃′ r₃) (c₃ : ℕ)
+        (e₃ : trimAnswer r₃ ≡ given c₃) where
+      pub fair-trim : l₂ ≡ l → l₃ ≡ take c₂ o₂′ → take c₃ o₃′ ≡ take c o′
+      fair-trim is-log is-fair =
+          let third = trims.given-left m₃ l₃ o₃ w₃ o₃′ w₃′ r₃ c₃ left₃ e₃ in
+          rw (third .words, is-fair, fair-second .words, is-log, trim .words) (trimming.fair-trim m l _ _ (trim .read))
+
+-- Every loop of a log that passes questions 1 to 10 fits the words that question 11 asks for.
+pub trim-loop-fits : (m : Ceilings) (l : List ℕ) (n t : ℕ) → questions m l ≡ given (n, t)
+    → (c : List ℕ) → Loop (graphOf l) c → length (loopWords c) ≤ fairNeed t
+trim-loop-fits = trimming.trim-loop-fits

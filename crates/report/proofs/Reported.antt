@@ -4,7 +4,6 @@ use mathlib.Core.List.{List, _++_}
 use Prim.Native.Nat.{ℕ, _≤_, _<_}
 use native.Mathlib.Omega.{arith}
 use lib.ListN.{length, take, drop, getD}
-use lib.Seq.{take-at}
 use Rattle.order.specs.Order.{All}
 use Rattle.paths.specs.Graph.{Graph, EndsBelow, Acyclic, Apart, Largest, Width, Loop}
 use Rattle.paths.proofs.Theorems.{
@@ -27,6 +26,7 @@ use Rattle.report.specs.Report.{outcomeAnswer, asked, cleared, Reported,
 use Rattle.report.specs.Accepted.{Accepted, LentEnough}
 use Rattle.report.specs.declared.Outcome.{Outcome}
 use Rattle.report.specs.declared.Outcome.the-variants.{Report, Loop as Looped, Refused}
+use Rattle.writing.proofs.Buffers.{begins-words}
 use Rattle.writing.proofs.Layouts.{length-loop, report-fits-need, report-head, apart-of-report, threads-of-report}
 use Rattle.report.proofs.Asked.{asked-passes, asked-given, asked-most}
 
@@ -83,9 +83,8 @@ module _ (m : Ceilings) (l o w o′ w′ : List ℕ) where
   report-left : (c : ℕ) → Left m l o w o′ w′ (Report c) → ReportLeft m l o w o′ w′ c
   unfolding Left
   report-left c (passes, (apart, threads, reported, count, begins), work) =
-      let ws : List ℕ = reportWords apart threads in
       let few : Small (graphOf l .n) = number-lt (getD l 0 0) in
-      let at : take c o′ ≡ ws = rw (begins .1) (take-at ws (drop (length ws) o) c count) in
+      let (at, unchanged) = begins-words (reportWords apart threads) o o′ begins c count in
       let a : apartOf (take c o′) ≡ apart = rw at (apart-read few reported) in
       let t : threadsOf (take c o′) ≡ threads = rw at (threads-read few reported) in
       record {
@@ -93,7 +92,7 @@ module _ (m : Ceilings) (l o w o′ w′ : List ℕ) where
         reported = rw (a, t) reported;
         count = rw at count;
         words = rw (a, t) at;
-        unchanged = rw (at, ← count) (begins .1);
+        unchanged = unchanged;
         work = work;
       }
 
@@ -111,7 +110,7 @@ pub not-both : {A : Type 0} (x : Answer A) (a : A) (q p : ℕ) → x ≡ given a
 not-both x a q p e f = let none : _≡_ {A = ℕ} 0 1 = cc in omega arith
 
 -- a loop is a way from its first episode to itself
-loop-cyclic : {g : Graph} {c : List ℕ} → Acyclic g → Loop g c → ⊥
+pub loop-cyclic : {g : Graph} {c : List ℕ} → Acyclic g → Loop g c → ⊥
 loop-cyclic acyclic o = acyclic (o .first) (loop-to-way o)
 
 module _ (m : Ceilings) (l o w o′ w′ : List ℕ) where

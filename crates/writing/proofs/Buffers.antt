@@ -24,6 +24,12 @@ module _ (ws o o′ : List ℕ) (b : BeginsWith ws o o′) where
       let le : length ws ≤ length o = b .0 in
       omega arith
 
+  -- so many words are these, and behind them stands what was there
+  pub begins-words : (c : ℕ) → length ws ≡ c → (take c o′ ≡ ws) × (o′ ≡ take c o′ ++ drop c o)
+  begins-words c count =
+      let words : take c o′ ≡ ws = rw (b .1) (take-at ws (drop (length ws) o) c count) in
+      (words, rw (words, ← count) (b .1))
+
   -- a word is stored behind them
   pub begins-more : (i x : ℕ) → i ≡ length ws → i < length o → BeginsWith (ws ++ (x ∷ [])) o (set o′ i x)
   begins-more i x e h =
