@@ -1,4 +1,5 @@
--- Tests that compute, for graphs written out: whether given threads are a cover, given episodes the furthest apart set or a loop.
+-- Tests that compute, for graphs written out: whether given threads are a cover, given episodes the furthest apart set or a loop, and whether
+-- given links are those that stay.
 -- Each test comes with the lemma that it is right.
 use mathlib.Core.Path.{_≡_, refl, subst}
 use mathlib.Core.Bool.{Bool, true, false, not, _&&_, _||_}
@@ -42,10 +43,12 @@ use Rattle.paths.specs.Graph.{
   Loop,
 }
 use Rattle.paths.specs.Closure.{WayBelow}
+use Rattle.paths.specs.Trimmed.{Stays, Trimmed, Implied}
 use Rattle.paths.proofs.Ways.{way-below, below-way, way-first}
 use Rattle.paths.proofs.Numbers.{below, lt-below}
 use Rattle.paths.proofs.Duality.{equal-smallest, equal-largest}
 use Rattle.paths.proofs.Furthest.{Behind, furthest-by-threads}
+use Rattle.paths.proofs.Trimming.{stays-direct, direct-stays}
 
 -- both, or one of the two
 pub both : (a b : Bool) → T (a && b) → T a × T b
@@ -243,6 +246,24 @@ module _ (g : Graph) where
       (each-right (λ v. not (reaches (g .n) v v)) (below (g .n)) h v (lt-below (g .n) (way-first ends w)))
       (reaches-all (g .n) v v (way-below g ends w))
 
+  -- a link and a way lead from `a` to `b`
+  unfoldable pub implied : ℕ → ℕ → Bool
+  unfolding some linked reaches below
+  implied a b = some (λ c. linked a c && reaches (g .n) c b) (below (g .n))
+
+  implied-right : (a b : ℕ) → T (implied a b) → Implied g a b
+  unfolding implied
+  implied-right a b h =
+      let (c, m, t) = some-right (λ c. linked a c && reaches (g .n) c b) (below (g .n)) h in
+      let q = both (linked a c) (reaches (g .n) c b) t in
+      (c, linked-right a c (q .0), below-way g (g .n) (reaches-right (g .n) c b (q .1)))
+
+  implied-all : EndsBelow g → (a b : ℕ) → Implied g a b → T (implied a b)
+  unfolding implied
+  implied-all ends a b (c, l, w) =
+      some-all (λ c. linked a c && reaches (g .n) c b) (below (g .n)) (lt-below (g .n) (ends a c l .1))
+      (pair (linked a c) (reaches (g .n) c b) (linked-all a c l) (reaches-all (g .n) c b (way-below g ends w)))
+
   -- neither the same nor with a way
   noWay : List ℕ → ℕ → Bool
   noWay s a = each (λ b. eqb a b || not (reaches (g .n) a b)) s
@@ -377,3 +398,38 @@ module _ (g : Graph) (ts : List (List ℕ)) (s : List ℕ) (bs : List (List (Lis
         rising = rises-right s (h₄ .0);
         same = same;
       }
+
+-- `h` has the links of `g` that no others imply, and no others
+module _ (g h : Graph) where
+  unfoldable pub trimTest : Bool
+  unfolding each linked implied endsTest
+  trimTest =
+      endsTest g
+      && (each (λ l. linked g (l .0) (l .1) && not (implied g (l .0) (l .1))) (h .links)
+      && each (λ l. implied g (l .0) (l .1) || linked h (l .0) (l .1)) (g .links))
+
+  pub trim-right : h .n ≡ g .n → T trimTest → Trimmed g h
+  unfolding trimTest
+  trim-right episodes t = record { episodes = episodes; links = λ a b. (there-stays a b, stays-there a b) }
+    where
+      stay : ℕ × ℕ → Bool
+      stay l = linked g (l .0) (l .1) && not (implied g (l .0) (l .1))
+
+      kept : ℕ × ℕ → Bool
+      kept l = implied g (l .0) (l .1) || linked h (l .0) (l .1)
+
+      ends : EndsBelow g
+      ends = ends-right g (both (endsTest g) (each stay (h .links) && each kept (g .links)) t .0)
+
+      tests : T (each stay (h .links)) × T (each kept (g .links))
+      tests = both (each stay (h .links)) (each kept (g .links)) (both (endsTest g) (each stay (h .links) && each kept (g .links)) t .1)
+
+      there-stays : (a b : ℕ) → Link h a b → Stays g a b
+      there-stays a b l =
+          let q = both (linked g a b) (not (implied g a b)) (each-right stay (h .links) (tests .0) (a, b) l) in
+          direct-stays ends (linked-right g a b (q .0)) (λ i. T-not (implied g a b) (q .1) (implied-all g ends a b i))
+
+      stays-there : (a b : ℕ) → Stays g a b → Link h a b
+      stays-there a b s =
+          ⊎-elim (λ i. absurd (stays-direct ends s (implied-right g a b i))) (linked-right h a b)
+          (either (implied g a b) (linked h a b) (each-right kept (g .links) (tests .1) (a, b) (s .link)))

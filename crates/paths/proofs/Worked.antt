@@ -1,5 +1,6 @@
 -- The worked graphs of the scope, and its false readings, each shown not to meet the definitions.
-use mathlib.Core.Path.{_≡_, refl}
+use mathlib.Core.Path.{_≡_, refl, ap}
+use mathlib.Core.Logic.{_⊎_, inl, inr, ⊎-elim}
 use mathlib.Core.Bool.{Bool}
 use mathlib.Core.List.{List, [], _∷_, List·Memᴰ·head as here, List·Memᴰ·tail as there}
 use Prim.Native.Nat.{ℕ, _≤_, _<_}
@@ -8,10 +9,13 @@ use lib.Dec.{T, ltb, ltb→lt}
 use lib.ListN.{length}
 use Rattle.order.specs.Order.{All, Chain, more}
 use Rattle.paths.specs.Graph.{Graph, Link, one, step, Thread, Apart, Cover, Smallest, Furthest, Loop}
+use Rattle.paths.specs.Trimmed.{Stays, Trimmed}
 use Rattle.paths.proofs.Furthest.{furthest-unique}
 use Rattle.paths.proofs.Checker.{
   linked,
   linked-all,
+  trimTest,
+  trim-right,
   rises,
   rises-right,
   each,
@@ -169,3 +173,62 @@ furthest-is-one f =
     furthest-unique (w .acyclic) other (whole-row .apart) f (w .furthest) (rises-right other tt) (w .rising) in
     let first : _≡_ {A = ℕ} 0 1 = cc in
     omega arith
+
+-- a graph and its links that stay
+pub record TrimRow : Type 0 where
+  pub graph : Graph
+  pub stay : List (ℕ × ℕ)
+
+-- three links round a fourth
+abbrev pub detour : Graph
+detour = graph 4 ((0, 1) ∷ (1, 2) ∷ (2, 3) ∷ (0, 3) ∷ [])
+
+abbrev pub trim-rows : List TrimRow
+trim-rows =
+    record { graph = graph 3 ((0, 1) ∷ (1, 2) ∷ (0, 2) ∷ []); stay = (0, 1) ∷ (1, 2) ∷ [] }
+    ∷ record {
+      graph = graph 4 ((0, 1) ∷ (0, 2) ∷ (1, 3) ∷ (2, 3) ∷ []);
+      stay = (0, 1) ∷ (0, 2) ∷ (1, 3) ∷ (2, 3) ∷ [];
+    }
+    ∷ record { graph = graph 2 ((0, 1) ∷ (0, 1) ∷ []); stay = (0, 1) ∷ [] }
+    ∷ record { graph = detour; stay = (0, 1) ∷ (1, 2) ∷ (2, 3) ∷ [] }
+    ∷ []
+
+abbrev rowTrimmed : TrimRow → Graph
+rowTrimmed r = graph (r .graph .n) (r .stay)
+
+trimRowTest : TrimRow → Bool
+trimRowTest r = trimTest (r .graph) (rowTrimmed r)
+
+trim-rows-pass : T (each trimRowTest trim-rows)
+unfolding each trimRowTest trimTest
+trim-rows-pass = tt
+
+-- the graphs whose trimming is worked through: a link beside two others goes, the diamond stays, a repeat does not take its own link away, and
+-- a link beside three others goes
+pub worked-trims : All (λ r. Trimmed (r .graph) (rowTrimmed r)) trim-rows
+unfolding trimRowTest
+worked-trims r m = trim-right (r .graph) (rowTrimmed r) refl (each-right trimRowTest trim-rows trim-rows-pass r m)
+
+-- "no other path" as "no path of two links": there is none beside 0-3 in the last of them, but 0-3 does not stay
+pub longer-paths-count : ((c : ℕ) → Link detour 0 c → Link detour c 3 → ⊥) × (Stays detour 0 3 → ⊥)
+unfolding linked
+longer-paths-count = (
+  λ c l k. ⊎-elim (λ e. linked-all detour 1 3 (rw e at k)) (λ e. linked-all detour 3 3 (rw e at k)) (next c l),
+  λ s. linked-all (rowTrimmed last) 0 3 (worked-trims last (there (there (there (here refl)))) .links 0 3 .1 s),
+)
+  where
+    last : TrimRow
+    last = record { graph = detour; stay = (0, 1) ∷ (1, 2) ∷ (2, 3) ∷ [] }
+
+    first : ℕ × ℕ → ℕ
+    first l = l .0
+
+    second : ℕ × ℕ → ℕ
+    second l = l .1
+
+    next : (c : ℕ) → Link detour 0 c → (c ≡ 1) ⊎ (c ≡ 3)
+    next c (here e) = inl (ap second e)
+    next c (there (here e)) = let none : _≡_ {A = ℕ} 0 1 = ap first e in absurd (omega arith)
+    next c (there (there (here e))) = let none : _≡_ {A = ℕ} 0 2 = ap first e in absurd (omega arith)
+    next c (there (there (there (here e)))) = inr (ap second e)
