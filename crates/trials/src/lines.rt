@@ -2,6 +2,7 @@
 ghost use Prim.Native.Nat.{_≤_};
 ghost use lib.ListN.{length};
 use crate::show;
+use crate::show::Service;
 use bytes::scan::find;
 use check::same;
 
@@ -111,8 +112,8 @@ fn thread(text: &[u8], words: &[u32]) -> bool {
     true
 }
 
-// The trial of a report or, where `copies`, of a fair copy, with `lent` output words: `text` is WORK NAME.
-fn lending(copies: bool, lent: usize, text: &[u8], words: &[u32]) -> bool
+// The trial of a service with `lent` output words: `text` is WORK NAME.
+fn lending(service: Service, lent: usize, text: &[u8], words: &[u32]) -> bool
     requires { ⌜ lent ≤ 64 ⌝ }
 {
     let Number::Of(work) = decimal(first(text)) else {
@@ -125,23 +126,19 @@ fn lending(copies: bool, lent: usize, text: &[u8], words: &[u32]) -> bool
     if 16400 < work {
         return false;
     }
-    if copies {
-        show::copy(name, words, lent, work);
-    } else {
-        show::report(name, words, lent, work);
-    }
+    show::call(service, name, words, lent, work);
     true
 }
 
 // The same: `text` is LENT WORK NAME.
-fn call(copies: bool, text: &[u8], words: &[u32]) -> bool {
+fn call(service: Service, text: &[u8], words: &[u32]) -> bool {
     let Number::Of(lent) = decimal(first(text)) else {
         return false;
     };
     if 64 < lent {
         return false;
     }
-    lending(copies, lent, rest(text), words)
+    lending(service, lent, rest(text), words)
 }
 
 // Makes the trial that the first word of a line asks for. False where it asks for none.
@@ -150,10 +147,13 @@ fn choose(word: &[u8], text: &[u8], words: &[u32]) -> bool {
         return reading(text, words);
     }
     if same(word, b"report") {
-        return call(false, text, words);
+        return call(Service::Report, text, words);
     }
     if same(word, b"copy") {
-        return call(true, text, words);
+        return call(Service::FairCopy, text, words);
+    }
+    if same(word, b"trim") {
+        return call(Service::TrimmedCopy, text, words);
     }
     if same(word, b"thread") {
         return thread(text, words);

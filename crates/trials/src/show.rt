@@ -5,6 +5,14 @@ use fair_copy::CopyOutcome;
 use libc::STDOUT_FILENO;
 use log::Reading;
 use report::Outcome;
+use trimmed_copy::TrimOutcome;
+
+// The services that write to a lent output.
+pub enum Service {
+    Report,
+    FairCopy,
+    TrimmedCopy,
+}
 
 pub fn write(text: &[u8]) {
     io::write_all(STDOUT_FILENO, text);
@@ -170,23 +178,38 @@ pub fn thread(name: &[u8], report: &[u32], i: usize) {
     end_line();
 }
 
-// The outcome of a report call or, where `copies`, of a fair copy call; a copy is given as a report is.
-fn ask(copies: bool, log: &[u32], out: &mut [u32], work: &mut [u32]) -> Outcome {
-    if !copies {
-        return report::report(log, out, work);
-    }
+// The outcome of a fair copy call; a copy is given as a report is.
+fn ask_copy(log: &[u32], out: &mut [u32], work: &mut [u32]) -> Outcome {
     match fair_copy::fair_copy(log, out, work) {
         CopyOutcome::Copied(count) => Outcome::Report(count),
         CopyOutcome::Refused(number, place) => Outcome::Refused(number, place),
     }
 }
 
-// The words of a report or of a fair copy, and how many words of the buffers are not as they should be; of a report, each thread too.
-fn write_answer(copies: bool, out: &[u32; 64], count: usize, scratch: &[u32; 16400]) {
+// The outcome of a trimmed copy call, in the same way.
+fn ask_trimmed(log: &[u32], out: &mut [u32], work: &mut [u32]) -> Outcome {
+    match trimmed_copy::trimmed_copy(log, out, work) {
+        TrimOutcome::Trimmed(count) => Outcome::Report(count),
+        TrimOutcome::Loop(length) => Outcome::Loop(length),
+        TrimOutcome::Refused(number, place) => Outcome::Refused(number, place),
+    }
+}
+
+// The outcome of a call of the service.
+fn ask(service: Service, log: &[u32], out: &mut [u32], work: &mut [u32]) -> Outcome {
+    match service {
+        Service::Report => report::report(log, out, work),
+        Service::FairCopy => ask_copy(log, out, work),
+        Service::TrimmedCopy => ask_trimmed(log, out, work),
+    }
+}
+
+// The words of a report or of a copy, and how many words of the buffers are not as they should be; of a report, each thread too.
+fn write_answer(service: Service, out: &[u32; 64], count: usize, scratch: &[u32; 16400]) {
     write(b"words");
     write_output(out, count);
     expect_cleared(scratch);
-    if !copies {
+    if let Service::Report = service {
         write_all_threads(out, count);
     }
 }
@@ -208,39 +231,33 @@ fn write_refused(number: u32, place: usize, out: &[u32; 64], scratch: &[u32; 164
 }
 
 // The outcome of a call, what it wrote, and how many words of the buffers are not as they should be.
-fn write_outcome(copies: bool, outcome: Outcome, out: &[u32; 64], scratch: &[u32; 16400]) {
+fn write_outcome(service: Service, outcome: Outcome, out: &[u32; 64], scratch: &[u32; 16400]) {
     match outcome {
-        Outcome::Report(count) => write_answer(copies, out, count, scratch),
+        Outcome::Report(count) => write_answer(service, out, count, scratch),
         Outcome::Loop(length) => write_loop(out, length, scratch),
         Outcome::Refused(number, place) => write_refused(number, place, out, scratch),
     }
 }
 
+// The start of the line of a call.
+fn write_call(service: Service, name: &[u8]) {
+    match service {
+        Service::Report => write_start(b"report on ", name),
+        Service::FairCopy => write_start(b"copy of ", name),
+        Service::TrimmedCopy => write_start(b"trim of ", name),
+    }
+}
+
 // What a call answers and leaves, with `lent` of 64 output words and `work` of 16,400 work words. Before it all hold the mark.
-fn call(copies: bool, log: &[u32], lent: usize, work: usize)
+pub fn call(service: Service, name: &[u8], log: &[u32], lent: usize, work: usize)
     requires { ⌜ (lent ≤ 64) × (work ≤ 16400) ⌝ }
 {
+    write_call(service, name);
     let mut out = [MARK; 64];
     let mut scratch = [MARK; 16400];
-    let outcome = ask(copies, log, &mut out[0..lent], &mut scratch[0..work]);
-    write_outcome(copies, outcome, &out, &scratch);
+    let outcome = ask(service, log, &mut out[0..lent], &mut scratch[0..work]);
+    write_outcome(service, outcome, &out, &scratch);
     end_line();
-}
-
-// What a fair copy call answers and leaves, on the line that `name` begins.
-pub fn copy(name: &[u8], log: &[u32], lent: usize, work: usize)
-    requires { ⌜ (lent ≤ 64) × (work ≤ 16400) ⌝ }
-{
-    write_start(b"copy of ", name);
-    call(true, log, lent, work);
-}
-
-// What a report call answers and leaves, on the line that `name` begins.
-pub fn report(name: &[u8], log: &[u32], lent: usize, work: usize)
-    requires { ⌜ (lent ≤ 64) × (work ≤ 16400) ⌝ }
-{
-    write_start(b"report on ", name);
-    call(false, log, lent, work);
 }
 
 // An outcome without the words.
@@ -252,25 +269,24 @@ fn write_count(outcome: Outcome) {
     }
 }
 
-// The outcome alone, with `lent` output words and 16,384 work words.
-fn outcome_of(copies: bool, log: &[u32], lent: usize)
-    requires { ⌜ lent ≤ 10502 ⌝ }
+// The output words that are just enough for every log: for 200 episodes, or for 4,096 to words.
+fn enough(service: Service) -> usize
+    ensures { λ r. ⌜ r ≤ 10502 ⌝ }
 {
+    match service {
+        Service::Report => 10502,
+        Service::FairCopy => 8194,
+        Service::TrimmedCopy => 8194,
+    }
+}
+
+// The outcome of a call alone, of a log of any size.
+pub fn outcome(service: Service, name: &[u8], log: &[u32]) {
+    write_call(service, name);
+    let lent = enough(service);
     let mut out = [MARK; 10502];
     let mut work = [MARK; 16384];
-    let outcome = ask(copies, log, &mut out[0..lent], &mut work);
+    let outcome = ask(service, log, &mut out[0..lent], &mut work);
     write_count(outcome);
     end_line();
-}
-
-// The outcome of a fair copy call alone, of a log of any size and an output that is just long enough for 4,096 to words.
-pub fn copy_outcome(name: &[u8], log: &[u32]) {
-    write_start(b"copy of ", name);
-    outcome_of(true, log, 8194);
-}
-
-// The outcome of a report call alone, of a log of any size and an output that is just long enough for 200 episodes.
-pub fn outcome(name: &[u8], log: &[u32]) {
-    write_start(b"report on ", name);
-    outcome_of(false, log, 10502);
 }
