@@ -4,11 +4,11 @@ use mathlib.Core.Logic.{_≢_}
 use mathlib.Core.List.{List}
 use Prim.Native.Nat.{ℕ, zero, suc, _+_, _-_, _*_, _/_, _%_, _^_, _≤_, _<_, max}
 use native.Mathlib.Decide.{decLt, ℕ-discrete}
-use native.Mathlib.Nat.{mod-lt, mod-eq-of-lt, div-eq-of-lt, div-le-self, zero-lt-suc, lt-of-lt-of-le, lt-of-le-of-lt}
+use native.Mathlib.Nat.{mod-lt, div-eq-of-lt, div-le-self, zero-lt-suc, lt-of-lt-of-le, lt-of-le-of-lt}
 use native.Mathlib.Omega.{arith}
 use lib.ListN.{length, getD, set, length-set}
 use lib.Seq.{getD-set-same, getD-set-other}
-use lib.Pow.{pow-lt, pow-mono}
+use lib.Pow.{pow-mono}
 use lib.Bits.{bitOr, bitXor, differ, or-lt, xor-lt}
 use lib.Count.{trailingZeros}
 use Rattle.bits.specs.Bits.{digit, bit, BitSet, RowJoined, RowCopied, FirstBit, NextNew}

@@ -1,7 +1,7 @@
 -- Trimming: which links stay, and that in an acyclic graph the links that stay have the same ways as all links. A way from `a` to `b`
 -- is taken apart at an episode between the two as long as there is one; each time fewer are left between.
 use mathlib.Core.Path.{_≡_, refl, sym, ap, _∙_}
-use mathlib.Core.Logic.{_⊎_, inl, inr, ⊎-elim, _↔_}
+use mathlib.Core.Logic.{_⊎_, inl, inr, _↔_}
 use mathlib.Core.List.{
   List,
   [],

@@ -3,7 +3,7 @@
 use mathlib.Core.Path.{_≡_, refl, sym, ap, _∙_}
 use mathlib.Core.Logic.{_⊎_, inl, inr, ⊎-elim}
 use mathlib.Core.List.{List}
-use Prim.Native.Nat.{ℕ, _+_, _-_, _*_, _/_, _%_, _^_, _≤_, _<_, max}
+use Prim.Native.Nat.{ℕ, _+_, _-_, _*_, _/_, _%_, _^_, _≤_, _<_}
 use native.Mathlib.Decide.{ℕ-discrete, decLt}
 use native.Mathlib.Omega.{arith}
 use lib.Bits.{bitOr, bitXor}
@@ -14,8 +14,8 @@ use Rattle.paths.specs.Graph.{Graph, Link, Way}
 use Rattle.paths.specs.Trimmed.{Implied}
 use Rattle.paths.proofs.Ways.{way-trans}
 use Rattle.bits.specs.Bits.{digit, bit}
-use Rattle.bits.specs.Work.{linksAt, waysAt, nextAt, Matrix}
-use Rattle.bits.proofs.Digits.{digit-or, digit-lt, Rest, rest-start, rest-here, rest-below, rest-least, rest-on, rest-none, rest-end}
+use Rattle.bits.specs.Work.{linksAt, waysAt, Matrix}
+use Rattle.bits.proofs.Digits.{digit-or, digit-lt, Rest, rest-start, rest-here, rest-below, rest-on, rest-none, rest-end}
 use Rattle.bits.proofs.Rows.{bit-lt, bit-digit, bits-zero, fresh, fresh-one, digit-fresh}
 use Rattle.trimming.specs.Trimming.{Held, RowAdded, WaysAdded, HoldsImplied}
 
@@ -84,9 +84,6 @@ taking-start w x first v h =
 
 module _ {w v v′ u : List ℕ} {x first rest : ℕ} (s : Taking w x first v v′ rest) (some : 0 < rest)
     (q : RowAdded w (waysAt + 8 * (first + trailingZeros 32 rest)) v′ u) where
-  t : ℕ
-  t = trailingZeros 32 rest
-
   kept : (c : ℕ) → c < 256 → bit v′ 0 c ≡ 1 → bit u 0 c ≡ 1
   kept c hc o = omega (arith, q .joined c hc, bit-lt w (waysAt + 8 * (first + trailingZeros 32 rest)) c)
 

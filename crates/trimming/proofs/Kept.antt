@@ -1,6 +1,5 @@
 -- The graph of the links that stay.
-use mathlib.Core.Path.{_≡_, refl}
-use mathlib.Core.List.{List}
+use mathlib.Core.Path.{refl}
 use Prim.Native.Nat.{ℕ, _≤_}
 use lib.ListN.{length}
 use Rattle.order.proofs.Lists.{kept-mem, mem-kept, length-kept}

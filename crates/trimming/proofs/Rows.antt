@@ -1,11 +1,11 @@
 -- The links of a row that are not implied: how they are written, bit by bit of a word and word by word, and that they are the links that stay.
-use mathlib.Core.Path.{_≡_, refl, sym, _∙_}
-use mathlib.Core.Bool.{Bool, true, false, _&&_}
+use mathlib.Core.Path.{_≡_, refl, _∙_}
+use mathlib.Core.Bool.{Bool, true, _&&_}
 use mathlib.Core.List.{List, [], _∷_}
-use Prim.Native.Nat.{ℕ, zero, suc, _+_, _-_, _*_, _^_, _≤_, _<_, max}
+use Prim.Native.Nat.{ℕ, zero, suc, _+_, _-_, _*_, _≤_, _<_, max}
 use native.Mathlib.Decide.{ℕ-discrete}
 use native.Mathlib.Omega.{arith}
-use lib.Bits.{bitXor, differ}
+use lib.Bits.{differ}
 use lib.Count.{trailingZeros}
 use lib.Dec.{eqb}
 use lib.ListN.{length, getD, set, length-append}
@@ -19,7 +19,7 @@ use Rattle.paths.proofs.Trimming.{stays-direct, direct-stays, trimmed-ends}
 use Rattle.log.specs.Words.{word}
 use Rattle.bits.specs.Bits.{digit, bit}
 use Rattle.bits.specs.Work.{linksAt}
-use Rattle.bits.proofs.Digits.{digit-lt, Rest, rest-start, rest-here, rest-below, rest-least, rest-none, rest-on, rest-end}
+use Rattle.bits.proofs.Digits.{digit-lt, Rest, rest-here, rest-below, rest-least, rest-none, rest-end}
 use Rattle.bits.proofs.Rows.{bit-lt, bit-digit, fresh, digit-fresh}
 use Rattle.writing.proofs.Listing.{Listing, listing-more, listing-skip}
 use Rattle.copying.specs.FairCopy.{linked, linkedTo, group}
