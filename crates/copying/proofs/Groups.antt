@@ -24,20 +24,18 @@ is-marked row b ne = rw (ne-eqb (getD row b 0) 0 ne)
 pub not-marked : (row : List ℕ) (b : ℕ) → getD row b 0 ≡ 0 → markedAt row b ≡ false
 not-marked row b e = rw (eq-eqb (getD row b 0) 0 e)
 
--- the group has room for a number that passes behind those below it, and for the from word
-pub passing-room : (test : ℕ → Bool) (a b n : ℕ) → b < n → test b ≡ true → length (passing test b) + 2 ≤ length (group a (passing test n))
-passing-room test a b n h pass =
-    let more : length (passing test (b + 1)) ≡ length (passing test b) + 1 = rw (passing-more test b pass) (length-append (passing test b) (b ∷ [])) in
-    let some = passing-le test (b + 1) n (omega arith) in
-    rw (length-group a (passing test n)) (long (length (passing test b)) (length (passing test n)) (omega arith))
+-- the group has room for a marked number behind those below it, and for the from word
+pub marked-room : (row : List ℕ) (a b : ℕ) → b < length row → getD row b 0 ≢ 0
+    → length (marked row b) + 2 ≤ length (group a (marked row (length row)))
+marked-room row a b h ne =
+    let more : length (marked row (b + 1)) ≡ length (marked row b) + 1 =
+    rw (passing-more (markedAt row) b (is-marked row b ne)) (length-append (marked row b) (b ∷ [])) in
+    let some = passing-le (markedAt row) (b + 1) (length row) (omega arith) in
+    rw (length-group a (marked row (length row))) (long (length (marked row b)) (length (marked row (length row))) (omega arith))
   where
     long : (k m : ℕ) → k + 1 ≤ m → k + 2 ≤ groupLength m
     long k zero p = absurd (omega arith)
     long k (suc m) p = omega arith
-
-pub marked-room : (row : List ℕ) (a b : ℕ) → b < length row → getD row b 0 ≢ 0
-    → length (marked row b) + 2 ≤ length (group a (marked row (length row)))
-marked-room row a b h ne = passing-room (markedAt row) a b (length row) h (is-marked row b ne)
 
 -- the from word of a group goes in front of its to words; a group of no links has no words
 module _ (a : ℕ) (o o′ : List ℕ) where

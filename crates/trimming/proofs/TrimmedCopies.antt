@@ -6,11 +6,11 @@ use mathlib.Core.List.{List, List·Nodup}
 use Prim.Native.Nat.{ℕ, _≤_}
 use native.Mathlib.Omega.{arith}
 use lib.ListN.{length}
-use Rattle.paths.specs.Graph.{Graph, Link, EndsBelow, SameLinks, Acyclic, Loop}
+use Rattle.paths.specs.Graph.{Graph, EndsBelow, SameLinks, Acyclic, Loop}
 use Rattle.paths.specs.Trimmed.{SameWays, Trimmed}
 use Rattle.paths.proofs.Same.{ways-sym, ways-trans, links-ways}
 use Rattle.paths.proofs.Trimming.{trimmed-ends}
-use Rattle.paths.proofs.Theorems.{trimmed-ways, ways-trimmed, trimmed-least, loop-few}
+use Rattle.paths.proofs.Theorems.{trimmed-ways, ways-trimmed, loop-few}
 use Rattle.log.specs.Words.{Small}
 use Rattle.log.specs.Answer.{given}
 use Rattle.log.specs.Log.{questions, graphOf}
@@ -101,8 +101,3 @@ trims-equal m m′ l l′ n n′ t t′ e e′ a a′ = (
   λ same. ways-trans (rw same at (trim-ways m l n t e a)) (ways-sym (trim-ways m′ l′ n′ t′ e′ a′)),
   ways-copy (graphOf l) (graphOf l′) (links-below m l n t e) (links-below m′ l′ n′ t′ e′),
 )
-
--- every log with the same ways has each link of the trimmed copy
-pub trim-least : (m : Ceilings) (l l′ : List ℕ) (n t : ℕ) (e : questions m l ≡ given (n, t)) → SameWays (graphOf l) (graphOf l′)
-    → (a b : ℕ) → Link (graphOf (trimmedWords (graphOf l))) a b → Link (graphOf l′) a b
-trim-least m l l′ n t e same a b k = trimmed-least (links-below m l n t e) same a b (trim-is m l n t e .links a b .0 k)
