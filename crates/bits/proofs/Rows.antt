@@ -1,5 +1,5 @@
 -- Laws of bits in a list of words: after a word is stored or copied, of the first bit, and of the first new one.
-use mathlib.Core.Path.{_≡_, refl, sym, ap, _∙_}
+use mathlib.Core.Path.{_≡_, refl, sym, ap, ap₂, _∙_}
 use mathlib.Core.Logic.{_≢_}
 use mathlib.Core.List.{List}
 use Prim.Native.Nat.{ℕ, zero, suc, _+_, _-_, _*_, _/_, _%_, _^_, _≤_, _<_, max}
@@ -11,7 +11,7 @@ use lib.Seq.{getD-set-same, getD-set-other}
 use lib.Pow.{pow-mono}
 use lib.Bits.{bitOr, bitXor, differ, or-lt, xor-lt}
 use lib.Count.{trailingZeros}
-use Rattle.bits.specs.Bits.{digit, bit, BitSet, RowJoined, RowCopied, FirstBit, NextNew}
+use Rattle.bits.specs.Bits.{digit, bit, BitSet, RowJoined, RowAdded, RowCopied, FirstBit, NextNew}
 use Rattle.bits.proofs.Digits.{mask, digit-lt, digit-or, digit-xor, digit-shr, digit-one, digit-other, digit-trailing, digit-below, digit-none}
 
 pub bit-lt : (w : List ℕ) (row b : ℕ) → bit w row b < 2
@@ -72,52 +72,62 @@ set-bit-law w row b h =
 
 -- ---- a row joined into another
 
--- the first `i` words of the row at `to` have those of the row at `from` joined into them
-pub record Joining (w w′ : List ℕ) (to from i : ℕ) : Type 0 where
-  pub same-length : length w′ ≡ length w
-  pub done : (j : ℕ) → j < i → getD w′ (to + j) 0 ≡ bitOr (getD w (to + j) 0) (getD w (from + j) 0)
-  pub before : (j : ℕ) → j < to → getD w′ j 0 ≡ getD w j 0
-  pub behind : (j : ℕ) → to + i ≤ j → getD w′ j 0 ≡ getD w j 0
+-- the first `i` words of the row of `v` at `to` have those of the row of `w` at `from` joined into them
+pub record Joining (w v v′ : List ℕ) (to from i : ℕ) : Type 0 where
+  pub same-length : length v′ ≡ length v
+  pub done : (j : ℕ) → j < i → getD v′ (to + j) 0 ≡ bitOr (getD v (to + j) 0) (getD w (from + j) 0)
+  pub before : (j : ℕ) → j < to → getD v′ j 0 ≡ getD v j 0
+  pub behind : (j : ℕ) → to + i ≤ j → getD v′ j 0 ≡ getD v j 0
 
-module _ (w w′ : List ℕ) (base a k i : ℕ) (h : i < 8) (s : Joining w w′ (base + 8 * a) (base + 8 * k) i) where
-  abbrev to : ℕ
-  to = base + 8 * a
+pub joining-none : (w v : List ℕ) (to from : ℕ) → Joining w v v to from 0
+joining-none w v to from =
+    record { same-length = refl; done = λ j l. absurd (omega arith); before = λ j l. refl; behind = λ j l. refl }
 
-  abbrev from : ℕ
-  from = base + 8 * k
-
-  abbrev x : ℕ
-  x = bitOr (getD w′ (to + i) 0) (getD w′ (from + i) 0)
-
-  source : Dec (from + i < to) → getD w′ (from + i) 0 ≡ getD w (from + i) 0
-  source (yes l) = s .before (from + i) l
-  source (no l) = s .behind (from + i) (omega arith)
-
-  pub joining-more : to + i < length w → Joining w (set w′ (to + i) x) to from (i + 1)
-  joining-more fits =
+module _ {w v v′ : List ℕ} {to from i : ℕ} (s : Joining w v v′ to from i) where
+  -- one word more, `y` is what the row at `from` has there
+  pub joining-more : (y : ℕ) → y ≡ getD w (from + i) 0 → to + i < length v
+      → Joining w v (set v′ (to + i) (bitOr (getD v′ (to + i) 0) y)) to from (i + 1)
+  joining-more y read fits =
       record {
-        same-length = length-set w′ (to + i) x ∙ s .same-length;
+        same-length = length-set v′ (to + i) x ∙ s .same-length;
         done = λ j l. done j l (ℕ-discrete j i);
-        before = λ j l. getD-set-other w′ (to + i) j x 0 (λ e. absurd (omega arith)) ∙ s .before j l;
-        behind = λ j l. getD-set-other w′ (to + i) j x 0 (λ e. absurd (omega arith)) ∙ s .behind j (omega arith);
+        before = λ j l. getD-set-other v′ (to + i) j x 0 (λ e. absurd (omega arith)) ∙ s .before j l;
+        behind = λ j l. getD-set-other v′ (to + i) j x 0 (λ e. absurd (omega arith)) ∙ s .behind j (omega arith);
       }
     where
-      done : (j : ℕ) → j < i + 1 → Dec (j ≡ i) → getD (set w′ (to + i) x) (to + j) 0 ≡ bitOr (getD w (to + j) 0) (getD w (from + j) 0)
-      done j l (yes e) =
-          rw e (getD-set-same w′ (to + i) x 0 (rw (s .same-length) fits)
-          ∙ ap (λ (y : ℕ). bitOr y (getD w′ (from + i) 0)) (s .behind (to + i) (omega arith))
-          ∙ ap (bitOr (getD w (to + i) 0)) (source (decLt (from + i) to)))
-      done j l (no ne) = getD-set-other w′ (to + i) (to + j) x 0 (λ e. ne (omega arith)) ∙ s .done j (omega arith)
+      x : ℕ
+      x = bitOr (getD v′ (to + i) 0) y
 
-pub row-joined : (w w′ : List ℕ) (base a k i : ℕ) → i ≡ 8 → Joining w w′ (base + 8 * a) (base + 8 * k) i → RowJoined w w′ base a k
-unfolding bit
+      done : (j : ℕ) → j < i + 1 → Dec (j ≡ i) → getD (set v′ (to + i) x) (to + j) 0 ≡ bitOr (getD v (to + j) 0) (getD w (from + j) 0)
+      done j l (yes e) =
+          rw e (getD-set-same v′ (to + i) x 0 (rw (s .same-length) fits)
+          ∙ ap₂ bitOr (s .behind (to + i) (omega arith)) read)
+      done j l (no ne) = getD-set-other v′ (to + i) (to + j) x 0 (λ e. ne (omega arith)) ∙ s .done j (omega arith)
+
+  joined-bit : i ≡ 8 → (b : ℕ) → b < 256 → bit v′ to b ≡ max (bit v to b) (bit w from b)
+  unfolding bit
+  joined-bit e b l = ap (λ (x : ℕ). digit x (b % 32)) (s .done (b / 32) (omega arith)) ∙ digit-or _ _ (b % 32)
+
+-- the rows may stand in one matrix: what is still to be joined is as it was
+module _ {w w′ : List ℕ} (base a k : ℕ) {i : ℕ} (h : i < 8) (s : Joining w w w′ (base + 8 * a) (base + 8 * k) i) where
+  pub row-unread : getD w′ (base + 8 * k + i) 0 ≡ getD w (base + 8 * k + i) 0
+  row-unread = go (decLt (base + 8 * k + i) (base + 8 * a))
+    where
+      go : Dec (base + 8 * k + i < base + 8 * a) → getD w′ (base + 8 * k + i) 0 ≡ getD w (base + 8 * k + i) 0
+      go (yes l) = s .before (base + 8 * k + i) l
+      go (no l) = s .behind (base + 8 * k + i) (omega arith)
+
+pub row-joined : (w w′ : List ℕ) (base a k i : ℕ) → i ≡ 8 → Joining w w w′ (base + 8 * a) (base + 8 * k) i → RowJoined w w′ base a k
 row-joined w w′ base a k i e s =
-    record {
-      same-length = s .same-length;
-      before = s .before;
-      behind = λ j h. s .behind j (omega arith);
-      joined = λ b l. ap (λ (x : ℕ). digit x (b % 32)) (s .done (b / 32) (omega arith)) ∙ digit-or _ _ (b % 32);
-    }
+    record { same-length = s .same-length; before = s .before; behind = λ j h. s .behind j (omega arith); joined = joined-bit s e }
+
+-- a row by itself starts at word 0
+module _ {w v v′ : List ℕ} {row i : ℕ} (s : Joining w v v′ 0 row i) where
+  pub adding-more : i < length v → Joining w v (set v′ i (bitOr (getD v′ i 0) (getD w (row + i) 0))) 0 row (i + 1)
+  adding-more fits = let e : 0 + i ≡ i = omega arith in rw e at (joining-more s (getD w (row + i) 0) refl (omega arith))
+
+  pub row-added : i ≡ 8 → RowAdded w row v v′
+  row-added e = record { same-length = s .same-length; joined = joined-bit s e }
 
 -- ---- the first bit
 

@@ -27,6 +27,11 @@ pub record RowJoined (w w′ : List ℕ) (base a k : ℕ) : Type 0 where
   pub behind : (i : ℕ) → base + 8 * a + 8 ≤ i → getD w′ i 0 ≡ getD w i 0
   pub joined : (b : ℕ) → b < 256 → bit w′ (base + 8 * a) b ≡ max (bit w (base + 8 * a) b) (bit w (base + 8 * k) b)
 
+-- the row of bits `v′` has besides those of `v` those of the row of `w` that starts at word `row`
+pub record RowAdded (w : List ℕ) (row : ℕ) (v v′ : List ℕ) : Type 0 where
+  pub same-length : length v′ ≡ length v
+  pub joined : (b : ℕ) → b < 256 → bit v′ 0 b ≡ max (bit v 0 b) (bit w row b)
+
 -- `r` is the first bit of the row at `row`, or 256
 pub record FirstBit (w : List ℕ) (row r : ℕ) : Type 0 where
   pub at-most : r ≤ 256

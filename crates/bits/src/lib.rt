@@ -2,7 +2,7 @@
 ghost use mathlib.Core.Path.{_≡_};
 ghost use Prim.Native.Nat.{_+_, _-_, _*_, _/_, _<_, _≤_};
 ghost use lib.ListN.{length, replicate};
-ghost use Rattle.bits.specs.Bits.{bit, BitSet, RowJoined, RowCopied, FirstBit, NextNew};
+ghost use Rattle.bits.specs.Bits.{bit, BitSet, RowJoined, RowAdded, RowCopied, FirstBit, NextNew};
 
 // The regions of the work words: the links and the ways, each a row of bits for each episode; the tables of the search, 256 words each;
 // the bits of what it has seen, of what earlier searches have seen in vain, and bits of which none is set.
@@ -53,6 +53,18 @@ pub fn join_row(w: &mut [u32], base: usize, a: usize, k: usize)
     let mut i = 0;
     while i < 8 {
         w[to + i] = w[to + i] | w[from + i];
+        i += 1;
+    }
+}
+
+// Joins the row that starts at word `row` of `w` into the row `v`.
+pub fn join_into(w: &[u32], row: usize, v: &mut [u32])
+    requires { ⌜ (row + 8 ≤ length (now w)) × (length (now v) ≡ 8) ⌝ }
+    ensures { λ _. ⌜ RowAdded (now (w .entry)) row (now (v .entry)) (now (v .exit)) ⌝ }
+{
+    let mut i = 0;
+    while i < 8 {
+        v[i] = v[i] | w[row + i];
         i += 1;
     }
 }

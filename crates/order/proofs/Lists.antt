@@ -1,6 +1,6 @@
--- Lists with a decidable membership: the members of one list that another does not have.
+-- Lists: no element twice, the members that pass a test, and with a decidable membership those that another list does not have.
 use mathlib.Core.Path.{_≡_, refl, sym, ap, subst}
-use mathlib.Core.Logic.{_≢_, _⊎_, inl, inr, ⊎-elim}
+use mathlib.Core.Logic.{_≢_, _⊎_, inl, inr, ⊎-elim, ite, Dec·not}
 use mathlib.Core.HLevel.{⊥-prop}
 use mathlib.Core.List.{
   List,
@@ -17,16 +17,17 @@ use mathlib.Core.List.{
   Memᴰ·cast,
   List-discrete,
   List·Nodup,
+  Nodup·sublist,
   Pairwise·cons,
   Sublistᴰ,
-  Sublistᴰ·slnil,
-  Sublistᴰ·cons,
-  Sublistᴰ·cons-cons,
+  filter,
+  filter-sublistᴰ,
+  filter-sublist,
 }
 use Prim.Native.Nat.{suc, _≤_, _<_, zero-le}
 use native.Mathlib.Omega.{arith}
 use lib.ListN.{length}
-use Rattle.order.specs.Order.{All, On, consWhere, kept}
+use Rattle.order.specs.Order.{All, On}
 
 module _ {A : Type 0} where
   pub all-nil : (P : A → Type 0) → All P []
@@ -66,44 +67,58 @@ find {A} {P} test (a ∷ l) = go (test a) (find test l)
     go (no np) (inl t) = inl (t .0, there (t .1), t .2)
     go (no np) (inr h) = inr (all-cons np h)
 
+-- the members that have the property, which `test` decides: the library's `filter`, by positions
 module _ {A : Type 0} {P : A → Type 0} (test : (x : A) → Dec (P x)) where
-  pub kept-mem : {x : A} (l : List A) → Mem x (kept test l) → Mem x l × P x
-  unfolding kept
-  kept-mem [] m = absurd (not-nil m)
-  kept-mem {x} (y ∷ l) m = go (λ r. kept-mem l r) (test y) m
+  pub filter-sound : {x : A} (l : List A) → Mem x (filter test l) → Mem x l × P x
+  filter-sound [] m = absurd (not-nil m)
+  filter-sound {x} (y ∷ l) m = go (λ r. filter-sound l r) (test y) m
     where
-      go : (Mem x (kept test l) → Mem x l × P x) → (d : Dec (P y)) → Mem x (consWhere d y (kept test l)) → Mem x (y ∷ l) × P x
+      go : (Mem x (filter test l) → Mem x l × P x) → (d : Dec (P y)) → Mem x (ite {C = List A} d (y ∷ filter test l) (filter test l))
+          → Mem x (y ∷ l) × P x
       go rest (no np) r = (there (rest r .0), rest r .1)
       go rest (yes p) r = ⊎-elim (λ e. (here e, subst P (sym e) p)) (λ q. (there (rest q .0), rest q .1)) (mem-cases r)
 
-  pub mem-kept : {x : A} (l : List A) → Mem x l → P x → Mem x (kept test l)
-  unfolding kept
-  mem-kept [] m p = absurd (not-nil m)
-  mem-kept {x} (y ∷ l) m p = go (λ r. mem-kept l r p) (test y) (mem-cases m)
+  pub filter-complete : {x : A} (l : List A) → Mem x l → P x → Mem x (filter test l)
+  filter-complete [] m p = absurd (not-nil m)
+  filter-complete {x} (y ∷ l) m p = go (λ r. filter-complete l r p) (test y) (mem-cases m)
     where
-      go : (Mem x l → Mem x (kept test l)) → (d : Dec (P y)) → (x ≡ y) ⊎ Mem x l → Mem x (consWhere d y (kept test l))
+      go : (Mem x l → Mem x (filter test l)) → (d : Dec (P y)) → (x ≡ y) ⊎ Mem x l
+          → Mem x (ite {C = List A} d (y ∷ filter test l) (filter test l))
       go rest (yes q) (inl e) = here e
       go rest (yes q) (inr r) = there (rest r)
       go rest (no nq) (inl e) = absurd (nq (subst P e p))
       go rest (no nq) (inr r) = rest r
 
-  pub kept-nodup : (l : List A) → List·Nodup l → List·Nodup (kept test l)
-  unfolding kept
-  kept-nodup [] p = p
-  kept-nodup (y ∷ l) p = go (test y) (kept-nodup l (nodup-tail p))
-    where
-      go : (d : Dec (P y)) → List·Nodup (kept test l) → List·Nodup (consWhere d y (kept test l))
-      go (no nq) r = r
-      go (yes q) r = nodup-cons (λ m. nodup-head p (kept-mem l m .0)) r
+  pub filter-nodup : (l : List A) → List·Nodup l → List·Nodup (filter test l)
+  filter-nodup l = Nodup·sublist (filter-sublist test {l = l})
 
-  pub length-kept : (l : List A) → length (kept test l) ≤ length l
-  unfolding kept
-  length-kept [] = zero-le
-  length-kept (y ∷ l) = go (test y) (length-kept l)
+  pub filter-length : (l : List A) → length (filter test l) ≤ length l
+  filter-length [] = zero-le
+  filter-length (y ∷ l) = go (test y) (filter-length l)
     where
-      go : (d : Dec (P y)) → length (kept test l) ≤ length l → length (consWhere d y (kept test l)) ≤ suc (length l)
+      go : (d : Dec (P y)) → length (filter test l) ≤ length l → length (ite {C = List A} d (y ∷ filter test l) (filter test l)) ≤ suc (length l)
       go (yes q) r = omega arith
       go (no nq) r = omega arith
+
+  -- where a member has it not, fewer are left
+  pub filter-fewer : {x : A} (l : List A) → Mem x l → (P x → ⊥) → length (filter test l) < length l
+  filter-fewer [] m np = absurd (not-nil m)
+  filter-fewer {x} (y ∷ l) m np = go (filter-length l) (λ r. filter-fewer l r np) (test y) (mem-cases m)
+    where
+      go : length (filter test l) ≤ length l → (Mem x l → length (filter test l) < length l) → (d : Dec (P y)) → (x ≡ y) ⊎ Mem x l
+          → length (ite {C = List A} d (y ∷ filter test l) (filter test l)) < suc (length l)
+      go le rest (no nq) c = omega arith
+      go le rest (yes q) (inl e) = absurd (np (subst P (sym e) q))
+      go le rest (yes q) (inr r) = let h = rest r in omega arith
+
+  -- where each has it, all are left
+  pub filter-all : (l : List A) → All P l → filter test l ≡ l
+  filter-all [] h = refl
+  filter-all (y ∷ l) h = go (test y) (filter-all l (λ x m. h x (there m)))
+    where
+      go : (d : Dec (P y)) → filter test l ≡ l → ite {C = List A} d (y ∷ filter test l) (filter test l) ≡ y ∷ l
+      go (yes q) e = ap (λ (k : List A). y ∷ k) e
+      go (no nq) e = absurd (nq (h y (here refl)))
 
 module _ {A : Type 0} (dec : Discrete A) where
   -- whether `x` is a member of `l`
@@ -116,88 +131,47 @@ module _ {A : Type 0} (dec : Discrete A) where
       go (no ne) (yes m) = yes (there m)
       go (no ne) (no nm) = no (λ m. ⊎-elim ne nm (mem-cases m))
 
--- `x` in front of `l` unless `P` holds
-unless : {A P : Type 0} → Dec P → A → List A → List A
-unless (yes p) x l = l
-unless (no np) x l = x ∷ l
-
 module _ {A : Type 0} (dec : Discrete A) where
   -- the members of `X` that are not in `D`
   pub without : List A → List A → List A
-  without D [] = []
-  without D (x ∷ X) = unless (decMem dec x D) x (without D X)
+  without D X = filter (λ x. Dec·not (decMem dec x D)) X
 
   pub mem-without : {x : A} (D X : List A) → Mem x X → (Mem x D → ⊥) → Mem x (without D X)
-  unfolding without unless
-  mem-without D [] m nd = absurd (not-nil m)
-  mem-without {x} D (y ∷ X) m nd = go (λ r. mem-without D X r nd) (decMem dec y D) (mem-cases m)
-    where
-      go : (Mem x X → Mem x (without D X)) → (d : Dec (Mem y D)) → (x ≡ y) ⊎ Mem x X → Mem x (unless d y (without D X))
-      go rest (yes yd) (inl e) = absurd (nd (Memᴰ·cast e yd))
-      go rest (yes yd) (inr r) = rest r
-      go rest (no ny) (inl e) = here e
-      go rest (no ny) (inr r) = there (rest r)
+  unfolding without
+  mem-without D X = filter-complete (λ x. Dec·not (decMem dec x D)) X
 
   pub without-mem : {x : A} (D X : List A) → Mem x (without D X) → Mem x X × (Mem x D → ⊥)
-  unfolding without unless
-  without-mem D [] m = absurd (not-nil m)
-  without-mem {x} D (y ∷ X) m = go (λ r. without-mem D X r) (decMem dec y D) m
-    where
-      go : (Mem x (without D X) → Mem x X × (Mem x D → ⊥)) → (d : Dec (Mem y D)) → Mem x (unless d y (without D X))
-          → Mem x (y ∷ X) × (Mem x D → ⊥)
-      go rest (yes yd) r = (there (rest r .0), rest r .1)
-      go rest (no ny) r =
-          ⊎-elim (λ e. (here e, λ xd. ny (Memᴰ·cast (sym e) xd))) (λ q. (there (rest q .0), rest q .1)) (mem-cases r)
+  unfolding without
+  without-mem D X = filter-sound (λ x. Dec·not (decMem dec x D)) X
 
   pub without-sublist : (D X : List A) → Sublistᴰ (without D X) X
-  unfolding without unless
-  without-sublist D [] = Sublistᴰ·slnil
-  without-sublist D (y ∷ X) = go (decMem dec y D) (without-sublist D X)
-    where
-      go : (d : Dec (Mem y D)) → Sublistᴰ (without D X) X → Sublistᴰ (unless d y (without D X)) (y ∷ X)
-      go (yes yd) h = Sublistᴰ·cons h
-      go (no ny) h = Sublistᴰ·cons-cons refl h
+  unfolding without
+  without-sublist D X = filter-sublistᴰ (λ x. Dec·not (decMem dec x D)) X
 
   pub length-without : (D X : List A) → length (without D X) ≤ length X
-  unfolding without unless
-  length-without D [] = zero-le
-  length-without D (y ∷ X) = go (decMem dec y D) (length-without D X)
-    where
-      go : (d : Dec (Mem y D)) → length (without D X) ≤ length X → length (unless d y (without D X)) ≤ suc (length X)
-      go (yes yd) h = omega arith
-      go (no ny) h = omega arith
+  unfolding without
+  length-without D X = filter-length (λ x. Dec·not (decMem dec x D)) X
 
   -- what takes out a member leaves fewer
   pub length-without-lt : {x : A} (D X : List A) → Mem x X → Mem x D → length (without D X) < length X
-  unfolding without unless
-  length-without-lt D [] m xd = absurd (not-nil m)
-  length-without-lt {x} D (y ∷ X) m xd = go (length-without D X) (λ r. length-without-lt D X r xd) (decMem dec y D) (mem-cases m)
-    where
-      go : length (without D X) ≤ length X → (Mem x X → length (without D X) < length X) → (d : Dec (Mem y D)) → (x ≡ y) ⊎ Mem x X
-          → length (unless d y (without D X)) < suc (length X)
-      go le rest (yes yd) c = omega arith
-      go le rest (no ny) (inl e) = absurd (ny (Memᴰ·cast (sym e) xd))
-      go le rest (no ny) (inr r) = let h = rest r in omega arith
+  unfolding without
+  length-without-lt D X m xd = filter-fewer (λ x. Dec·not (decMem dec x D)) X m (λ nd. nd xd)
 
   -- where nothing is to be taken out, all stays
   pub without-none : (D X : List A) → All (λ x. Mem x D → ⊥) X → without D X ≡ X
-  unfolding without unless
-  without-none D [] h = refl
-  without-none D (y ∷ X) h = go (decMem dec y D) (without-none D X (λ x m. h x (there m)))
-    where
-      go : (d : Dec (Mem y D)) → without D X ≡ X → unless d y (without D X) ≡ y ∷ X
-      go (yes yd) e = absurd (h y (here refl) yd)
-      go (no ny) e = ap (λ (l : List A). y ∷ l) e
+  unfolding without
+  without-none D X = filter-all (λ x. Dec·not (decMem dec x D)) X
 
   -- what takes out at most one member leaves at most one fewer
   pub length-without-one : (D X : List A) → List·Nodup X → ((x y : A) → Mem x X → Mem y X → Mem x D → Mem y D → x ≡ y)
       → length X ≤ suc (length (without D X))
-  unfolding without unless
+  unfolding without Dec·not
   length-without-one D [] p h = zero-le
   length-without-one D (y ∷ X) p h =
       go (decMem dec y D) (length-without-one D X (nodup-tail p) (λ a b m n. h a b (there m) (there n)))
     where
-      go : (d : Dec (Mem y D)) → length X ≤ suc (length (without D X)) → suc (length X) ≤ suc (length (unless d y (without D X)))
+      go : (d : Dec (Mem y D)) → length X ≤ suc (length (without D X))
+          → suc (length X) ≤ suc (length (ite {C = List A} (Dec·not d) (y ∷ without D X) (without D X)))
       go (no ny) rest = omega arith
       go (yes yd) rest =
           let others : All (λ x. Mem x D → ⊥) X = λ x m xd. nodup-head p (Memᴰ·cast (h y x (here refl) (there m) yd xd) m) in

@@ -53,13 +53,3 @@ pub record Dilworth {A : Type 0} (R : A → A → Type 0) (X : List A) : Type 0 
   pub is-antichain : Antichain R antichain
   pub within : All (λ x. Mem x X) antichain
   pub same : length chains ≡ length antichain
-
--- `x` in front of `l` where `P` holds
-abbrev pub consWhere : {A P : Type 0} → Dec P → A → List A → List A
-consWhere (yes p) x l = x ∷ l
-consWhere (no np) x l = l
-
--- the members of `l` that have the property, which `test` decides
-unfoldable pub kept : {A : Type 0} {P : A → Type 0} → ((x : A) → Dec (P x)) → List A → List A
-kept test [] = []
-kept test (x ∷ l) = consWhere (test x) x (kept test l)

@@ -1,7 +1,7 @@
 -- Trimming: which links stay, and that in an acyclic graph the links that stay have the same ways as all links. A way from `a` to `b`
 -- is taken apart at an episode between the two as long as there is one; each time fewer are left between.
 use mathlib.Core.Path.{_≡_, refl, sym, ap, _∙_}
-use mathlib.Core.Logic.{_⊎_, inl, inr, _↔_}
+use mathlib.Core.Logic.{_⊎_, inl, inr, _↔_, Dec·and}
 use mathlib.Core.List.{
   List,
   [],
@@ -11,13 +11,14 @@ use mathlib.Core.List.{
   List·Memᴰ·head as here,
   List·Memᴰ·tail as there,
   List·Nodup,
+  filter,
 }
 use Prim.Native.Nat.{ℕ, zero, suc, _≤_, _<_}
 use native.Mathlib.Decide.{ℕ-discrete, decLt}
 use native.Mathlib.Omega.{arith}
 use lib.ListN.{length}
-use Rattle.order.specs.Order.{All, Chain, single, more, kept}
-use Rattle.order.proofs.Lists.{all-cons, find, kept-mem, mem-kept, kept-nodup, nodup-cons, nodup-le}
+use Rattle.order.specs.Order.{All, Chain, single, more}
+use Rattle.order.proofs.Lists.{all-cons, find, filter-sound, filter-complete, filter-nodup, nodup-cons, nodup-le}
 use Rattle.order.proofs.Chains.{chain-map}
 use Rattle.paths.specs.Graph.{Graph, Episode, Link, EndsBelow, SameLinks, Way, one, step, Acyclic, Thread, Width}
 use Rattle.paths.specs.Trimmed.{SameWays, Stays, Trimmed, Implied}
@@ -27,12 +28,6 @@ use Rattle.paths.proofs.Loops.{walk-way}
 use Rattle.paths.proofs.Numbers.{below, lt-below, below-nodup}
 use Rattle.paths.proofs.Duality.{weak-duality, equal-smallest, certificate}
 use Rattle.paths.proofs.Same.{ways-sym, ways-acyclic, ways-apart}
-
--- both can be decided
-decBoth : {P Q : Type 0} → Dec P → Dec Q → Dec (P × Q)
-decBoth (yes p) (yes q) = yes (p, q)
-decBoth (yes p) (no nq) = no (λ b. nq (b .1))
-decBoth (no np) d = no (λ b. np (b .0))
 
 -- two ways that meet lead on by a link and a way
 pub meet-implied : {g : Graph} {a c b : ℕ} → Way g a c → Way g c b → Implied g a b
@@ -47,22 +42,22 @@ way-between ends (step {b = c} l w) = let r = way-between ends w in (c ∷ r .0,
 -- The links between episodes: a thread has no others.
 module _ (g : Graph) where
   below-both : (l : ℕ × ℕ) → Dec ((l .0 < g .n) × (l .1 < g .n))
-  below-both l = decBoth (decLt (l .0) (g .n)) (decLt (l .1) (g .n))
+  below-both l = Dec·and (decLt (l .0) (g .n)) (decLt (l .1) (g .n))
 
   inner : Graph
-  inner = record { n = g .n; links = kept below-both (g .links) }
+  inner = record { n = g .n; links = filter below-both (g .links) }
 
   inner-link : {a b : ℕ} → Link inner a b → Link g a b
   unfolding inner
-  inner-link m = kept-mem below-both (g .links) m .0
+  inner-link m = filter-sound below-both (g .links) m .0
 
   inner-ends : EndsBelow inner
   unfolding inner
-  inner-ends a b m = kept-mem below-both (g .links) m .1
+  inner-ends a b m = filter-sound below-both (g .links) m .1
 
   link-inner : {a b : ℕ} → Episode g a → Episode g b → Link g a b → Link inner a b
   unfolding inner
-  link-inner h k m = mem-kept below-both (g .links) m (h, k)
+  link-inner h k m = filter-complete below-both (g .links) m (h, k)
 
   inner-chain : {t : List ℕ} → All (Episode g) t → Chain (Link g) t → Chain (Link inner) t
   inner-chain h single = single
@@ -99,7 +94,7 @@ module _ (g : Graph) where
 
   -- whether a link stays can be decided
   pub decStays : (a b : ℕ) → Dec (Stays g a b)
-  decStays a b = go (decLink g a b) (find (λ c. decBoth (decLink inner a c) (decWay inner inner-ends c b)) (below (inner .n)))
+  decStays a b = go (decLink g a b) (find (λ c. Dec·and (decLink inner a c) (decWay inner inner-ends c b)) (below (inner .n)))
     where
       go : Dec (Link g a b)
           → ((c : ℕ) × Mem c (below (inner .n)) × (Link inner a c × Way inner c b)) ⊎ All (λ c. Link inner a c × Way inner c b → ⊥) (below (inner .n))
@@ -128,23 +123,23 @@ module _ {g : Graph} (ends : EndsBelow g) where
 -- The links that stay have the same ways as all links.
 module _ {g h : Graph} (ends : EndsBelow g) (acyclic : Acyclic g) (t : Trimmed g h) where
   between : (a b c : ℕ) → Dec (Way g a c × Way g c b)
-  between a b c = decBoth (decWay g ends a c) (decWay g ends c b)
+  between a b c = Dec·and (decWay g ends a c) (decWay g ends c b)
 
   -- the episodes between two
   inside : ℕ → ℕ → List ℕ
-  inside a b = kept (between a b) (below (g .n))
+  inside a b = filter (between a b) (below (g .n))
 
   inside-mem : {a b c : ℕ} → Mem c (inside a b) → Way g a c × Way g c b
   unfolding inside
-  inside-mem {a} {b} m = kept-mem (between a b) (below (g .n)) m .1
+  inside-mem {a} {b} m = filter-sound (between a b) (below (g .n)) m .1
 
   mem-inside : {a b c : ℕ} → Way g a c → Way g c b → Mem c (inside a b)
   unfolding inside
-  mem-inside {a} {b} w v = mem-kept (between a b) (below (g .n)) (lt-below (g .n) (way-last ends w)) (w, v)
+  mem-inside {a} {b} w v = filter-complete (between a b) (below (g .n)) (lt-below (g .n) (way-last ends w)) (w, v)
 
   inside-nodup : (a b : ℕ) → List·Nodup (inside a b)
   unfolding inside
-  inside-nodup a b = kept-nodup (between a b) (below (g .n)) (below-nodup (g .n))
+  inside-nodup a b = filter-nodup (between a b) (below (g .n)) (below-nodup (g .n))
 
   -- fewer are between the first and one of them, and between that one and the last
   module _ {a b c : ℕ} (w : Way g a c) (v : Way g c b) where

@@ -28,11 +28,6 @@ module _ {g : Graph} where
   way-last ends (one l) = ends _ _ l .1
   way-last ends (step l w) = way-last ends w
 
-  -- it starts with a link
-  pub way-link : {a b : ℕ} → Way g a b → (c : ℕ) × Link g a c
-  way-link (one {b = b} l) = (b, l)
-  way-link (step {b = b} l w) = (b, l)
-
 -- a graph with all links of another has its ways
 pub way-map : {g h : Graph} → ((a b : ℕ) → Link g a b → Link h a b) → {a b : ℕ} → Way g a b → Way h a b
 way-map f (one l) = one (f _ _ l)

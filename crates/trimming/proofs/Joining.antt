@@ -6,58 +6,17 @@ use mathlib.Core.List.{List}
 use Prim.Native.Nat.{ℕ, _+_, _-_, _*_, _/_, _%_, _^_, _≤_, _<_}
 use native.Mathlib.Decide.{ℕ-discrete, decLt}
 use native.Mathlib.Omega.{arith}
-use lib.Bits.{bitOr, bitXor}
+use lib.Bits.{bitXor}
 use lib.Count.{trailingZeros}
-use lib.ListN.{length, getD, set, replicate, length-set, getD-replicate}
-use lib.Seq.{getD-set-same, getD-set-other}
+use lib.ListN.{length, getD, replicate, getD-replicate}
 use Rattle.paths.specs.Graph.{Graph, Link, Way}
 use Rattle.paths.specs.Trimmed.{Implied}
 use Rattle.paths.proofs.Ways.{way-trans}
-use Rattle.bits.specs.Bits.{digit, bit}
+use Rattle.bits.specs.Bits.{digit, bit, RowAdded}
 use Rattle.bits.specs.Work.{linksAt, waysAt, Matrix}
-use Rattle.bits.proofs.Digits.{digit-or, digit-lt, Rest, rest-start, rest-here, rest-below, rest-on, rest-none, rest-end}
+use Rattle.bits.proofs.Digits.{digit-lt, Rest, rest-start, rest-here, rest-below, rest-on, rest-none, rest-end}
 use Rattle.bits.proofs.Rows.{bit-lt, bit-digit, bits-zero, fresh, fresh-one, digit-fresh}
-use Rattle.trimming.specs.Trimming.{Held, RowAdded, WaysAdded, HoldsImplied}
-
--- ---- one row joined
-
--- the first `i` words are joined
-pub record Adding (w : List ℕ) (row : ℕ) (v v′ : List ℕ) (i : ℕ) : Type 0 where
-  pub same-length : length v′ ≡ length v
-  pub at-most : i ≤ 8
-  pub done : (j : ℕ) → j < i → getD v′ j 0 ≡ bitOr (getD v j 0) (getD w (row + j) 0)
-  pub left : (j : ℕ) → i ≤ j → getD v′ j 0 ≡ getD v j 0
-
-pub adding-start : (w : List ℕ) (row : ℕ) (v : List ℕ) → Adding w row v v 0
-adding-start w row v = record { same-length = refl; at-most = omega arith; done = λ j h. absurd (omega arith); left = λ j h. refl }
-
-pub adding-on : (w : List ℕ) (row : ℕ) (v v′ : List ℕ) (i : ℕ) → i < 8 → length v ≡ 8 → Adding w row v v′ i
-    → Adding w row v (set v′ i (bitOr (getD v′ i 0) (getD w (row + i) 0))) (i + 1)
-adding-on w row v v′ i h long s =
-    record {
-      same-length = length-set v′ i x ∙ s .same-length;
-      at-most = omega arith;
-      done = λ j l. done j l (ℕ-discrete j i);
-      left = λ j l. getD-set-other v′ i j x 0 (λ e. absurd (omega arith)) ∙ s .left j (omega arith);
-    }
-  where
-    x : ℕ
-    x = bitOr (getD v′ i 0) (getD w (row + i) 0)
-
-    done : (j : ℕ) → j < i + 1 → Dec (j ≡ i) → getD (set v′ i x) j 0 ≡ bitOr (getD v j 0) (getD w (row + j) 0)
-    done j l (yes e) =
-        rw e (getD-set-same v′ i x 0 (omega (arith, s .same-length)) ∙ ap (λ (y : ℕ). bitOr y (getD w (row + i) 0)) (s .left i (omega arith)))
-    done j l (no ne) = getD-set-other v′ i j x 0 ne ∙ s .done j (omega (arith, ne))
-
-pub adding-end : (w : List ℕ) (row : ℕ) (v v′ : List ℕ) (i : ℕ) → 8 ≤ i → Adding w row v v′ i → RowAdded w row v v′
-unfolding bit
-adding-end w row v v′ i h s =
-    record {
-      same-length = s .same-length;
-      joined = λ c hc.
-          let e : 0 + c / 32 ≡ c / 32 = omega arith in
-          rw e (ap (λ (x : ℕ). digit x (c % 32)) (s .done (c / 32) (omega arith)) ∙ digit-or _ _ (c % 32));
-    }
+use Rattle.trimming.specs.Trimming.{Held, WaysAdded, HoldsImplied}
 
 -- ---- the rows of the bits of a word joined
 

@@ -2,7 +2,7 @@
 use mathlib.Core.Path.{refl}
 use Prim.Native.Nat.{ℕ, _≤_}
 use lib.ListN.{length}
-use Rattle.order.proofs.Lists.{kept-mem, mem-kept, length-kept}
+use Rattle.order.proofs.Lists.{filter-sound, filter-complete, filter-length}
 use Rattle.paths.specs.Graph.{Graph}
 use Rattle.paths.specs.Trimmed.{Trimmed}
 use Rattle.paths.proofs.Theorems.{stays-decidable}
@@ -16,12 +16,12 @@ module _ (g : Graph) where
       record {
         episodes = refl;
         links = λ a b. (
-          λ m. kept-mem (λ (l : ℕ × ℕ). stays-decidable g (l .0) (l .1)) (g .links) m .1,
-          λ s. mem-kept (λ (l : ℕ × ℕ). stays-decidable g (l .0) (l .1)) (g .links) (s .link) s,
+          λ m. filter-sound (λ (l : ℕ × ℕ). stays-decidable g (l .0) (l .1)) (g .links) m .1,
+          λ s. filter-complete (λ (l : ℕ × ℕ). stays-decidable g (l .0) (l .1)) (g .links) (s .link) s,
         );
       }
 
   -- and not more than there were
   pub trimmed-few : length (trimmed g .links) ≤ length (g .links)
   unfolding trimmed
-  trimmed-few = length-kept (λ (l : ℕ × ℕ). stays-decidable g (l .0) (l .1)) (g .links)
+  trimmed-few = filter-length (λ (l : ℕ × ℕ). stays-decidable g (l .0) (l .1)) (g .links)

@@ -3,7 +3,7 @@ use mathlib.Core.Path.{_≡_}
 use mathlib.Core.Logic.{_⊎_, _↔_}
 use mathlib.Core.Bool.{Bool, _&&_}
 use mathlib.Core.List.{List}
-use Prim.Native.Nat.{ℕ, _+_, _*_, _≤_, _<_, max}
+use Prim.Native.Nat.{ℕ, _+_, _*_, _≤_, _<_}
 use lib.Dec.{eqb}
 use lib.ListN.{length}
 use Rattle.paths.specs.Graph.{Graph, EndsBelow, Link, Way}
@@ -23,12 +23,7 @@ pub record Held (g : Graph) (n : ℕ) (w : List ℕ) : Type 0 where
   pub links : Matrix linksAt w (Link g)
   pub ways : Matrix waysAt w (Way g)
 
--- the row of bits `v′` has besides those of `v` those of the row of `w` that starts at word `row`
-pub record RowAdded (w : List ℕ) (row : ℕ) (v v′ : List ℕ) : Type 0 where
-  pub same-length : length v′ ≡ length v
-  pub joined : (c : ℕ) → c < 256 → bit v′ 0 c ≡ max (bit v 0 c) (bit w row c)
-
--- and `v′` those of the ways of `first + j`, for each digit `j` of `x` that is one
+-- the row of bits `v′` has besides those of `v` the ways of `first + j`, for each digit `j` of `x` that is one
 pub record WaysAdded (w : List ℕ) (x first : ℕ) (v v′ : List ℕ) : Type 0 where
   pub same-length : length v′ ≡ length v
   pub old : (c : ℕ) → c < 256 → bit v 0 c ≡ 1 → bit v′ 0 c ≡ 1

@@ -12,22 +12,10 @@ ghost use Rattle.writing.proofs.Listing.{Listing};
 ghost use Rattle.copying.specs.FairCopy.{linkedTo, group};
 ghost use Rattle.copying.specs.Copying.{GroupWritten, GroupsWritten};
 ghost use Rattle.trimming.specs.TrimmedCopy.{trimmed, trimmedWords};
-ghost use Rattle.trimming.specs.Trimming.{Held, RowAdded, WaysAdded, HoldsImplied, keptTo, TellsDigits};
+ghost use Rattle.trimming.specs.Trimming.{Held, WaysAdded, HoldsImplied, keptTo, TellsDigits};
 use bits::LINKS;
 use bits::WAYS;
 use copying::Written;
-
-// Joins the row of `w` that starts at word `row` into `implied`.
-fn join_into(w: &[u32], row: usize, implied: &mut [u32])
-    requires { ⌜ (row + 8 ≤ length (now w)) × (length (now implied) ≡ 8) ⌝ }
-    ensures { λ _. ⌜ RowAdded (now (w .entry)) row (now (implied .entry)) (now (implied .exit)) ⌝ }
-{
-    let mut i = 0;
-    while i < 8 {
-        implied[i] = implied[i] | w[row + i];
-        i += 1;
-    }
-}
 
 // Joins into `implied` the ways of the episodes that are the bits of `links`, counted from `first` on.
 fn join_ways(w: &[u32], links: u32, first: usize, implied: &mut [u32])
@@ -37,7 +25,7 @@ fn join_ways(w: &[u32], links: u32, first: usize, implied: &mut [u32])
     let mut rest = links;
     while rest != 0 {
         let bit = u32::trailing_zeros(rest);
-        join_into(w, WAYS + 8 * (first + bit as usize), implied);
+        bits::join_into(w, WAYS + 8 * (first + bit as usize), implied);
         rest = rest ^ (1 << bit);
     }
 }

@@ -2,12 +2,12 @@
 -- Assumes nothing.
 use Prim.Native.Nat.{_+_, _*_, _-_, _≤_}
 use native.Mathlib.Omega.{arith}
-use Rattle.bits.proofs.Rows.{Joining, joining-more, row-joined}
+use Rattle.bits.proofs.Rows.{Joining, joining-none, joining-more, row-unread, row-joined}
 use Rattle.bits.proofs.join_row.Statement.{statement}
 use Rattle.bits.proofs.join_row.Tie as tie
 
 abbrev Inv-loop : tie.InvT-loop
-Inv-loop w₀ base a k to from i₀ w i = (i ≤ 8) × Joining w₀ w (base + 8 * a) (base + 8 * k) i
+Inv-loop w₀ base a k to from i₀ w i = (i ≤ 8) × Joining w₀ w₀ w (base + 8 * a) (base + 8 * k) i
 
 abbrev μ-loop : tie.MeasureT-loop
 μ-loop w₀ base a k to from i₀ w i = 8 - i
@@ -64,7 +64,7 @@ loop-again : tie.Need-loop-again Inv-loop μ-loop
 loop-again c =
     let a = c .before .before .before .before .args in
     let at = c .before .before .before .loop in
-    (omega arith, joining-more (a .w .now) (at .w) (a .base) (a .a) (a .k) (at .i) (omega arith) (at .inv .1) (omega arith))
+    (omega arith, joining-more (at .inv .1) _ (row-unread (a .base) (a .a) (a .k) (omega arith) (at .inv .1)) (omega arith))
 
 same-length : tie.Need-same-length Inv-loop μ-loop
 same-length c = omega arith
