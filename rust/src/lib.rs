@@ -124,6 +124,9 @@ mod library {
         pub length: usize,
     }
 
+    /// A service that writes to a lent output: the log, the output and the work words, each with its length.
+    pub type Lending = unsafe extern "C" fn(*const u32, usize, *mut u32, usize, *mut u32, usize) -> Answer;
+
     // SAFETY: these are the functions of include/zohapy.h, with the same arguments and the same structures.
     unsafe extern "C" {
         pub fn zohapy_read(log: *const u32, log_words: usize) -> ReadAnswer;
@@ -165,11 +168,15 @@ pub fn read(log: &[u32]) -> Result<Reading, Refusal> {
     }
 }
 
+/// A call of one of the library's services that write to a lent output.
+fn call(service: library::Lending, log: &[u32], out: &mut [u32], work: &mut [u32]) -> library::Answer {
+    // SAFETY: the pointers and the lengths are those of three slices, no two of which share a word; the call stays within them.
+    unsafe { service(log.as_ptr(), log.len(), out.as_mut_ptr(), out.len(), work.as_mut_ptr(), work.len()) }
+}
+
 /// The report on a log, or a loop of it. For a report lend [`report_words`] output words and [`WORK_WORDS`] work words.
 pub fn report(log: &[u32], out: &mut [u32], work: &mut [u32]) -> Outcome {
-    // SAFETY: the pointers and the lengths are those of three slices, no two of which share a word; the call stays within them.
-    let answer =
-        unsafe { library::zohapy_report(log.as_ptr(), log.len(), out.as_mut_ptr(), out.len(), work.as_mut_ptr(), work.len()) };
+    let answer = call(library::zohapy_report, log, out, work);
     match answer.number {
         0 => Outcome::Report(answer.value),
         13 => Outcome::Loop(answer.value),
@@ -179,9 +186,7 @@ pub fn report(log: &[u32], out: &mut [u32], work: &mut [u32]) -> Outcome {
 
 /// The fair copy of a log; the answer is its count of words. Lend [`copy_words`] output words and [`WORK_WORDS`] work words.
 pub fn fair_copy(log: &[u32], out: &mut [u32], work: &mut [u32]) -> Result<usize, Refusal> {
-    // SAFETY: the pointers and the lengths are those of three slices, no two of which share a word; the call stays within them.
-    let answer =
-        unsafe { library::zohapy_fair_copy(log.as_ptr(), log.len(), out.as_mut_ptr(), out.len(), work.as_mut_ptr(), work.len()) };
+    let answer = call(library::zohapy_fair_copy, log, out, work);
     match answer.number {
         0 => Ok(answer.value),
         number => Err(Refusal { number, place: answer.value }),
@@ -191,10 +196,7 @@ pub fn fair_copy(log: &[u32], out: &mut [u32], work: &mut [u32]) -> Result<usize
 /// The trimmed copy of a log, or a loop of it: only those links A-B for which no other path leads from A to B. Lend
 /// [`copy_words`] output words and [`WORK_WORDS`] work words.
 pub fn trimmed_copy(log: &[u32], out: &mut [u32], work: &mut [u32]) -> TrimOutcome {
-    // SAFETY: the pointers and the lengths are those of three slices, no two of which share a word; the call stays within them.
-    let answer = unsafe {
-        library::zohapy_trimmed_copy(log.as_ptr(), log.len(), out.as_mut_ptr(), out.len(), work.as_mut_ptr(), work.len())
-    };
+    let answer = call(library::zohapy_trimmed_copy, log, out, work);
     match answer.number {
         0 => TrimOutcome::Trimmed(answer.value),
         13 => TrimOutcome::Loop(answer.value),

@@ -49,6 +49,9 @@ pub struct Library;
 mod header {
     use super::{Answer, ReadAnswer, ThreadAnswer};
 
+    /// A service that writes to a lent output.
+    pub type Lending = unsafe extern "C" fn(*const u32, usize, *mut u32, usize, *mut u32, usize) -> Answer;
+
     unsafe extern "C" {
         pub fn zohapy_read(log: *const u32, log_words: usize) -> ReadAnswer;
         pub fn zohapy_report(
@@ -79,6 +82,12 @@ mod header {
     }
 }
 
+/// A call of one of the header's services that write to a lent output.
+fn lending(service: header::Lending, log: &[u32], out: &mut [u32], work: &mut [u32]) -> Answer {
+    // SAFETY: the pointers and the lengths are those of three slices, and no two of them share a word.
+    unsafe { service(log.as_ptr(), log.len(), out.as_mut_ptr(), out.len(), work.as_mut_ptr(), work.len()) }
+}
+
 impl Services for Library {
     fn read(&mut self, door: Door, log: &mut Lent) -> ReadAnswer {
         let log = log.lent();
@@ -95,10 +104,7 @@ impl Services for Library {
     fn report(&mut self, door: Door, log: &mut Lent, out: &mut Lent, work: &mut Lent) -> Answer {
         let (log, out, work) = (log.lent(), out.lent_mut(), work.lent_mut());
         match door {
-            // SAFETY: the pointers and the lengths are those of three slices, and no two of them share a word.
-            Door::C => unsafe {
-                header::zohapy_report(log.as_ptr(), log.len(), out.as_mut_ptr(), out.len(), work.as_mut_ptr(), work.len())
-            },
+            Door::C => lending(header::zohapy_report, log, out, work),
             Door::Rust => match zohapy::report(log, out, work) {
                 zohapy::Outcome::Report(count) => Answer { number: 0, value: count },
                 zohapy::Outcome::Loop(length) => Answer { number: 13, value: length },
@@ -110,10 +116,7 @@ impl Services for Library {
     fn fair_copy(&mut self, door: Door, log: &mut Lent, out: &mut Lent, work: &mut Lent) -> Answer {
         let (log, out, work) = (log.lent(), out.lent_mut(), work.lent_mut());
         match door {
-            // SAFETY: the pointers and the lengths are those of three slices, and no two of them share a word.
-            Door::C => unsafe {
-                header::zohapy_fair_copy(log.as_ptr(), log.len(), out.as_mut_ptr(), out.len(), work.as_mut_ptr(), work.len())
-            },
+            Door::C => lending(header::zohapy_fair_copy, log, out, work),
             Door::Rust => match zohapy::fair_copy(log, out, work) {
                 Ok(count) => Answer { number: 0, value: count },
                 Err(refusal) => Answer { number: refusal.number, value: refusal.place },
@@ -124,10 +127,7 @@ impl Services for Library {
     fn trimmed_copy(&mut self, door: Door, log: &mut Lent, out: &mut Lent, work: &mut Lent) -> Answer {
         let (log, out, work) = (log.lent(), out.lent_mut(), work.lent_mut());
         match door {
-            // SAFETY: the pointers and the lengths are those of three slices, and no two of them share a word.
-            Door::C => unsafe {
-                header::zohapy_trimmed_copy(log.as_ptr(), log.len(), out.as_mut_ptr(), out.len(), work.as_mut_ptr(), work.len())
-            },
+            Door::C => lending(header::zohapy_trimmed_copy, log, out, work),
             Door::Rust => match zohapy::trimmed_copy(log, out, work) {
                 zohapy::TrimOutcome::Trimmed(count) => Answer { number: 0, value: count },
                 zohapy::TrimOutcome::Loop(length) => Answer { number: 13, value: length },

@@ -1,9 +1,10 @@
 -- What a fair copy call that meets the contract leaves, told by the words that it has written.
-use mathlib.Core.Path.{_≡_, refl, sym, subst, _∙_}
+use mathlib.Core.Path.{_≡_, refl, sym}
+use mathlib.Core.Logic.{⊎-elim}
 use mathlib.Core.List.{List, _++_}
 use Prim.Native.Nat.{ℕ}
 use lib.ListN.{length, take, drop}
-use Rattle.log.specs.Answer.{Answer, given, refused}
+use Rattle.log.specs.Answer.{given, refused}
 use Rattle.log.specs.Log.{questions, graphOf}
 use Rattle.log.specs.declared.Ceilings.{Ceilings}
 use Rattle.writing.proofs.Buffers.{begins-words}
@@ -13,7 +14,8 @@ use Rattle.fair_copy.specs.Copied.{copyAnswer, copyAsked, CopyLeft}
 use Rattle.fair_copy.specs.declared.CopyOutcome.{CopyOutcome}
 use Rattle.fair_copy.specs.declared.CopyOutcome.the-variants.{Copied, Refused}
 use Rattle.report.proofs.Asked.{asked-given}
-use Rattle.report.proofs.Reported.{not-both}
+use Rattle.report.proofs.Outcomes as outcomes
+use Rattle.report.proofs.Outcomes.{Leaves, denied, gave}
 
 -- What a call with the outcome of a copy leaves: `c` is the count of its words.
 pub record CopyGiven (m : Ceilings) (l o w o′ w′ : List ℕ) (c : ℕ) : Type 0 where
@@ -38,31 +40,29 @@ module _ (m : Ceilings) (l o w o′ w′ : List ℕ) where
         work = work;
       }
 
+  leaves : (r : CopyOutcome) → CopyLeft m l o w o′ w′ r
+      → Leaves (copyAsked m l (length o) (length w)) (graphOf l .n, length (graphOf l .links)) (CopyGiven m l o w o′ w′) (λ k. ⊥) ((o′ ≡ o) × (w′ ≡ w))
+      (copyAnswer r)
+  unfolding CopyLeft
+  leaves (Copied c) left = gave c refl (left .0) (copied-left c left)
+  leaves (Refused q p) left = denied q p refl (left .0) (left .1, left .2)
+
   -- a call that gives a count has left a copy
   pub given-left : (r : CopyOutcome) (c : ℕ) → CopyLeft m l o w o′ w′ r → copyAnswer r ≡ given c → CopyGiven m l o w o′ w′ c
-  given-left (Copied d) c left e =
-      let same : d ≡ c = cc in
-      subst (λ (x : ℕ). CopyGiven m l o w o′ w′ x) same (copied-left d left)
-  given-left (Refused q p) c left e = absurd (not-both (refused q p) c q p e refl)
+  given-left r c left e = outcomes.given-gave (leaves r left) c e .1
 
   -- a call whose questions are answered yes gives a count
   pub asked-given-count : (r : CopyOutcome) → copyAsked m l (length o) (length w) ≡ given (graphOf l .n, length (graphOf l .links))
       → CopyLeft m l o w o′ w′ r → (c : ℕ) × (copyAnswer r ≡ given c)
-  unfolding CopyLeft
-  asked-given-count (Copied c) passes left = (c, refl)
-  asked-given-count (Refused q p) passes left = absurd (not-both (copyAsked m l (length o) (length w)) _ q p passes (left .0))
+  asked-given-count r passes left =
+      ⊎-elim (λ (c, e, d). (c, e)) (λ (k, e, none). absurd none) (outcomes.asked-yes (leaves r left) passes)
 
   -- a call refuses exactly when its questions do
   pub refused-asked : (r : CopyOutcome) (q p : ℕ) → CopyLeft m l o w o′ w′ r → copyAnswer r ≡ refused q p
       → (copyAsked m l (length o) (length w) ≡ refused q p) × (o′ ≡ o) × (w′ ≡ w)
-  unfolding CopyLeft
-  refused-asked (Copied c) q p left e = absurd (not-both (given c) c q p refl e)
-  refused-asked (Refused q′ p′) q p left e = (left .0 ∙ cc, left .1, left .2)
+  refused-asked r q p left e =
+      ⊎-elim (λ (asks, same). (asks, same .0, same .1)) (λ (number, passes, none). absurd none) (outcomes.refused-by (leaves r left) q p e)
 
   pub asked-refused : (r : CopyOutcome) (q p : ℕ) → CopyLeft m l o w o′ w′ r → copyAsked m l (length o) (length w) ≡ refused q p
       → copyAnswer r ≡ refused q p
-  unfolding CopyLeft
-  asked-refused (Copied c) q p left e = absurd (not-both (copyAsked m l (length o) (length w)) _ q p (left .0) e)
-  asked-refused (Refused q′ p′) q p left e =
-      let same : _≡_ {A = Answer (ℕ × ℕ)} (refused q′ p′) (refused q p) = sym (left .0) ∙ e in
-      cc
+  asked-refused r q p left e = outcomes.asked-refused (leaves r left) q p e

@@ -320,7 +320,7 @@ module _ (m : Ceilings) (l o w o′ w′ : List ℕ) (r : TrimOutcome) (left : T
   trim-once = rw (trim .words) (trimming.trim-once m l _ _ (trim .read))
 
   pub trim-no-loop : (k : List ℕ) → Loop (graphOf (take c o′)) k → ⊥
-  trim-no-loop k loop = graphs.ways-acyclic (trim-read-back .1) (trim .acyclic) (loop .first) (graphs.loop-to-way loop)
+  trim-no-loop k = calls.loop-cyclic (graphs.ways-acyclic (trim-read-back .1) (trim .acyclic))
 
   -- So the log and its trimmed copy have the same apart sets, width and furthest apart set, and every cover of the copy is a cover of the log.
   pub trim-apart : (s : List ℕ) → Apart (graphOf l) s ↔ Apart (graphOf (take c o′)) s

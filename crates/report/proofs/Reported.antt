@@ -1,5 +1,6 @@
 -- What a report call that meets the contract leaves, read back from the words that it has written.
 use mathlib.Core.Path.{_≡_, refl, sym, ap, subst, _∙_}
+use mathlib.Core.Logic.{⊎-elim}
 use mathlib.Core.List.{List, _++_}
 use Prim.Native.Nat.{ℕ, _≤_, _<_}
 use native.Mathlib.Omega.{arith}
@@ -29,6 +30,8 @@ use Rattle.report.specs.declared.Outcome.the-variants.{Report, Loop as L
 use Rattle.writing.proofs.Buffers.{begins-words}
 use Rattle.writing.proofs.Layouts.{length-loop, report-fits-need, report-head, apart-of-report, threads-of-report}
 use Rattle.report.proofs.Asked.{asked-passes, asked-given, asked-most}
+use Rattle.report.proofs.Outcomes as outcomes
+use Rattle.report.proofs.Outcomes.{Leaves, denied, looped, gave}
 
 -- A report on a graph with few enough episodes for a word is read back from its words.
 module _ {g : Graph} {apart : List ℕ} {threads : List (List ℕ)} (few : Small (g .n)) (reported : Reported g apart threads) where
@@ -105,66 +108,47 @@ module _ (m : Ceilings) (l o w o′ w′ : List ℕ) where
 abbrev Asks : Ceilings → (l o w : List ℕ) → Answer (ℕ × ℕ)
 Asks m l o w = asked m (λ n t. reportNeed n) l (length o) (length w)
 
--- an answer is not both given and refused
-pub not-both : {A : Type 0} (x : Answer A) (a : A) (q p : ℕ) → x ≡ given a → x ≡ refused q p → ⊥
-not-both x a q p e f = let none : _≡_ {A = ℕ} 0 1 = cc in omega arith
-
 -- a loop is a way from its first episode to itself
 pub loop-cyclic : {g : Graph} {c : List ℕ} → Acyclic g → Loop g c → ⊥
 loop-cyclic acyclic o = acyclic (o .first) (loop-to-way o)
 
 module _ (m : Ceilings) (l o w o′ w′ : List ℕ) where
+  leaves : (r : Outcome) → Left m l o w o′ w′ r
+      → Leaves (Asks m l o w) (graphOf l .n, length (graphOf l .links)) (ReportLeft m l o w o′ w′) (LoopLeft m l o w o′ w′) ((o′ ≡ o) × (w′ ≡ w))
+      (outcomeAnswer r)
+  unfolding Left
+  leaves (Report c) left = gave c refl (left .0) (report-left m l o w o′ w′ c left)
+  leaves (Looped k) left = looped k refl (left .0) (loop-left m l o w o′ w′ k left)
+  leaves (Refused q p) left = denied q p refl (left .0) (left .1, left .2)
+
   -- a call that gives a count has left a report
   pub given-left : (r : Outcome) (c : ℕ) → Left m l o w o′ w′ r → outcomeAnswer r ≡ given c → ReportLeft m l o w o′ w′ c
-  given-left (Report d) c left e =
-      let same : d ≡ c = cc in
-      subst (λ (x : ℕ). ReportLeft m l o w o′ w′ x) same (report-left m l o w o′ w′ d left)
-  given-left (Looped d) c left e = absurd (not-both (refused 13 d) c 13 d e refl)
-  given-left (Refused q p) c left e = absurd (not-both (refused q p) c q p e refl)
+  given-left r c left e = outcomes.given-gave (leaves r left) c e .1
 
   -- a call with refusal 13 has left a loop
   pub refused-left : (r : Outcome) (k : ℕ) → Left m l o w o′ w′ r → outcomeAnswer r ≡ refused 13 k → LoopLeft m l o w o′ w′ k
-  unfolding Left
-  refused-left (Report d) k left e = absurd (not-both (given d) d 13 k refl e)
-  refused-left (Looped d) k left e =
-      let same : d ≡ k = cc in
-      subst (λ (x : ℕ). LoopLeft m l o w o′ w′ x) same (loop-left m l o w o′ w′ d left)
-  refused-left (Refused q p) k left e =
-      let most : q ≤ 12 = asked-most m (λ n t. reportNeed n) l (length o) (length w) q p (left .0) in
-      let same : q ≡ 13 = cc in
-      absurd (omega arith)
+  refused-left r k left e =
+      outcomes.refused-loop (asked-most m (λ n t. reportNeed n) l (length o) (length w)) (leaves r left) k e .1
 
   -- an acyclic graph's call whose questions are answered yes gives a count
   pub acyclic-given : (r : Outcome) → Passes m l (length o) (length w) → Acyclic (graphOf l) → Left m l o w o′ w′ r
       → (c : ℕ) × (outcomeAnswer r ≡ given c)
-  unfolding Left
-  acyclic-given (Report c) passes acyclic left = (c, refl)
-  acyclic-given (Looped k) passes acyclic left = absurd (loop-cyclic acyclic (left .1 .1 .loop))
-  acyclic-given (Refused q p) passes acyclic left = absurd (not-both (Asks m l o w) _ q p passes (left .0))
+  acyclic-given r passes acyclic left =
+      ⊎-elim (λ (c, e, d). (c, e)) (λ (k, e, d). absurd (loop-cyclic acyclic (d .shown .loop))) (outcomes.asked-yes (leaves r left) passes)
 
   -- a call on a graph with a loop, whose questions are answered yes, is refusal 13
   pub loop-refused : (r : Outcome) (c : List ℕ) → Passes m l (length o) (length w) → Loop (graphOf l) c → Left m l o w o′ w′ r
       → (k : ℕ) × (outcomeAnswer r ≡ refused 13 k)
-  unfolding Left
-  loop-refused (Report d) c passes loop left = absurd (loop-cyclic (left .1 .2 .acyclic) loop)
-  loop-refused (Looped k) c passes loop left = (k, refl)
-  loop-refused (Refused q p) c passes loop left = absurd (not-both (Asks m l o w) _ q p passes (left .0))
+  loop-refused r c passes loop left =
+      ⊎-elim (λ (d, e, g). absurd (loop-cyclic (g .reported .acyclic) loop)) (λ (k, e, d). (k, e)) (outcomes.asked-yes (leaves r left) passes)
 
   -- a call refuses with 1 to 12 exactly when the questions do
   pub refused-asked : (r : Outcome) (q p : ℕ) → q ≤ 12 → Left m l o w o′ w′ r → outcomeAnswer r ≡ refused q p
       → (Asks m l o w ≡ refused q p) × (o′ ≡ o) × (w′ ≡ w)
-  unfolding Left
-  refused-asked (Report d) q p h left e = absurd (not-both (given d) d q p refl e)
-  refused-asked (Looped d) q p h left e = let same : 13 ≡ q = cc in absurd (omega arith)
-  refused-asked (Refused q′ p′) q p h left e = (left .0 ∙ cc, left .1, left .2)
+  refused-asked r q p h left e = let (asks, same) = outcomes.refused-asked (leaves r left) q p h e in (asks, same .0, same .1)
 
   pub asked-refused : (r : Outcome) (q p : ℕ) → Left m l o w o′ w′ r → Asks m l o w ≡ refused q p → outcomeAnswer r ≡ refused q p
-  unfolding Left
-  asked-refused (Report d) q p left e = absurd (not-both (Asks m l o w) _ q p (left .0) e)
-  asked-refused (Looped d) q p left e = absurd (not-both (Asks m l o w) _ q p (left .0) e)
-  asked-refused (Refused q′ p′) q p left e =
-      let same : _≡_ {A = Answer (ℕ × ℕ)} (refused q′ p′) (refused q p) = sym (left .0) ∙ e in
-      cc
+  asked-refused r q p left e = outcomes.asked-refused (leaves r left) q p e
 
 -- The graph has the episodes and the links that questions 1 to 10 count.
 pub read-graph : (m : Ceilings) (l : List ℕ) (n t : ℕ) → questions m l ≡ given (n, t)

@@ -1,21 +1,21 @@
 -- What a trimmed copy call that meets the contract leaves, told by the words that it has written.
-use mathlib.Core.Path.{_≡_, refl, sym, subst, _∙_}
+use mathlib.Core.Path.{_≡_, refl, sym}
+use mathlib.Core.Logic.{⊎-elim}
 use mathlib.Core.List.{List, _++_}
 use Prim.Native.Nat.{ℕ, _≤_}
-use native.Mathlib.Omega.{arith}
 use lib.ListN.{length, take, drop}
 use Rattle.paths.specs.Graph.{Acyclic, Loop}
-use Rattle.paths.proofs.Theorems.{acyclic-no-loop}
-use Rattle.log.specs.Answer.{Answer, given, refused}
+use Rattle.log.specs.Answer.{given, refused}
 use Rattle.log.specs.Log.{questions, graphOf}
 use Rattle.log.specs.declared.Ceilings.{Ceilings}
-use Rattle.log.proofs.Laws.{links-below}
 use Rattle.writing.proofs.Buffers.{begins-words}
 use Rattle.copying.specs.FairCopy.{fairNeed}
 use Rattle.trimming.specs.TrimmedCopy.{trimmedWords}
 use Rattle.report.specs.Report.{cleared, ShowsLoop}
 use Rattle.report.proofs.Asked.{asked-given, asked-most}
-use Rattle.report.proofs.Reported.{not-both, loop-cyclic}
+use Rattle.report.proofs.Outcomes as outcomes
+use Rattle.report.proofs.Outcomes.{Leaves, denied, looped, gave}
+use Rattle.report.proofs.Reported.{loop-cyclic}
 use Rattle.fair_copy.specs.Copied.{copyAsked}
 use Rattle.trimmed_copy.specs.Trimmed.{trimAnswer, TrimPasses, TrimLeft}
 use Rattle.trimmed_copy.specs.declared.TrimOutcome.{TrimOutcome}
@@ -50,60 +50,45 @@ module _ (m : Ceilings) (l o w o′ w′ : List ℕ) where
         work = work;
       }
 
-  -- a call that gives a count has left a trimmed copy
+  leaves : (r : TrimOutcome) → TrimLeft m l o w o′ w′ r
+      → Leaves (copyAsked m l (length o) (length w)) (graphOf l .n, length (graphOf l .links)) (TrimGiven m l o w o′ w′)
+      (λ k. ShowsLoop (graphOf l) k o o′ × (w′ ≡ cleared w)) ((o′ ≡ o) × (w′ ≡ w)) (trimAnswer r)
+  unfolding TrimLeft
+  leaves (Trimmed c) left = gave c refl (left .0) (trimmed-left c left)
+  leaves (Looped k) left = looped k refl (left .0) (left .1, left .2)
+  leaves (Refused q p) left = denied q p refl (left .0) (left .1, left .2)
+
+  -- a call that gives a count has left a trimmed copy, and its log has no loop
   pub given-left : (r : TrimOutcome) (c : ℕ) → TrimLeft m l o w o′ w′ r → trimAnswer r ≡ given c → TrimGiven m l o w o′ w′ c
-  given-left (Trimmed d) c left e =
-      let same : d ≡ c = cc in
-      subst (λ (x : ℕ). TrimGiven m l o w o′ w′ x) same (trimmed-left d left)
-  given-left (Looped d) c left e = absurd (not-both (refused 13 d) c 13 d e refl)
-  given-left (Refused q p) c left e = absurd (not-both (refused q p) c q p e refl)
+  given-left r c left e = outcomes.given-gave (leaves r left) c e .1
+
+  pub given-no-loop : (c : ℕ) → TrimGiven m l o w o′ w′ c → (k : List ℕ) → Loop (graphOf l) k → ⊥
+  given-no-loop c d k = loop-cyclic (d .acyclic)
 
   -- a call with refusal 13 has left a loop
   pub refused-left : (r : TrimOutcome) (k : ℕ) → TrimLeft m l o w o′ w′ r → trimAnswer r ≡ refused 13 k
       → TrimPasses m l (length o) (length w) × ShowsLoop (graphOf l) k o o′ × (w′ ≡ cleared w)
-  unfolding TrimLeft
-  refused-left (Trimmed d) k left e = absurd (not-both (given d) d 13 k refl e)
-  refused-left (Looped d) k left e =
-      let same : d ≡ k = cc in
-      (left .0, subst (λ (x : ℕ). ShowsLoop (graphOf l) x o o′) same (left .1), left .2)
-  refused-left (Refused q p) k left e =
-      let most : q ≤ 12 = asked-most m (λ n t. fairNeed t) l (length o) (length w) q p (left .0) in
-      let same : q ≡ 13 = cc in
-      absurd (omega arith)
+  refused-left r k left e =
+      let (passes, shown) = outcomes.refused-loop (asked-most m (λ n t. fairNeed t) l (length o) (length w)) (leaves r left) k e in
+      (passes, shown .0, shown .1)
 
   -- a log without a loop, whose questions are answered yes, is copied
   pub no-loop-given : (r : TrimOutcome) → TrimPasses m l (length o) (length w) → ((c : List ℕ) → Loop (graphOf l) c → ⊥) → TrimLeft m l o w o′ w′ r
       → (c : ℕ) × (trimAnswer r ≡ given c)
-  unfolding TrimLeft
-  no-loop-given (Trimmed c) passes none left = (c, refl)
-  no-loop-given (Looped k) passes none left = absurd (none (left .1 .0) (left .1 .1 .loop))
-  no-loop-given (Refused q p) passes none left = absurd (not-both (copyAsked m l (length o) (length w)) _ q p passes (left .0))
-
-  -- and a log that is copied has none
-  pub given-no-loop : (c : ℕ) → TrimGiven m l o w o′ w′ c → (k : List ℕ) → Loop (graphOf l) k → ⊥
-  given-no-loop c d = acyclic-no-loop (graphOf l) (links-below m l _ _ (d .read)) .0 (d .acyclic)
+  no-loop-given r passes none left =
+      ⊎-elim (λ (c, e, d). (c, e)) (λ (k, e, d). absurd (none (d .0 .0) (d .0 .1 .loop))) (outcomes.asked-yes (leaves r left) passes)
 
   -- a log with a loop, whose questions are answered yes, is refused with 13
   pub loop-refused : (r : TrimOutcome) (c : List ℕ) → TrimPasses m l (length o) (length w) → Loop (graphOf l) c → TrimLeft m l o w o′ w′ r
       → (k : ℕ) × (trimAnswer r ≡ refused 13 k)
-  unfolding TrimLeft
-  loop-refused (Trimmed d) c passes loop left = absurd (loop-cyclic (left .1 .0) loop)
-  loop-refused (Looped k) c passes loop left = (k, refl)
-  loop-refused (Refused q p) c passes loop left = absurd (not-both (copyAsked m l (length o) (length w)) _ q p passes (left .0))
+  loop-refused r c passes loop left =
+      ⊎-elim (λ (d, e, g). absurd (loop-cyclic (g .acyclic) loop)) (λ (k, e, d). (k, e)) (outcomes.asked-yes (leaves r left) passes)
 
   -- a call refuses with 1 to 12 exactly when the questions do
   pub refused-asked : (r : TrimOutcome) (q p : ℕ) → q ≤ 12 → TrimLeft m l o w o′ w′ r → trimAnswer r ≡ refused q p
       → (copyAsked m l (length o) (length w) ≡ refused q p) × (o′ ≡ o) × (w′ ≡ w)
-  unfolding TrimLeft
-  refused-asked (Trimmed d) q p h left e = absurd (not-both (given d) d q p refl e)
-  refused-asked (Looped d) q p h left e = let same : 13 ≡ q = cc in absurd (omega arith)
-  refused-asked (Refused q′ p′) q p h left e = (left .0 ∙ cc, left .1, left .2)
+  refused-asked r q p h left e = let (asks, same) = outcomes.refused-asked (leaves r left) q p h e in (asks, same .0, same .1)
 
   pub asked-refused : (r : TrimOutcome) (q p : ℕ) → TrimLeft m l o w o′ w′ r → copyAsked m l (length o) (length w) ≡ refused q p
       → trimAnswer r ≡ refused q p
-  unfolding TrimLeft
-  asked-refused (Trimmed d) q p left e = absurd (not-both (copyAsked m l (length o) (length w)) _ q p (left .0) e)
-  asked-refused (Looped d) q p left e = absurd (not-both (copyAsked m l (length o) (length w)) _ q p (left .0) e)
-  asked-refused (Refused q′ p′) q p left e =
-      let same : _≡_ {A = Answer (ℕ × ℕ)} (refused q′ p′) (refused q p) = sym (left .0) ∙ e in
-      cc
+  asked-refused r q p left e = outcomes.asked-refused (leaves r left) q p e

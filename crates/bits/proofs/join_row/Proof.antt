@@ -2,7 +2,7 @@
 -- Assumes nothing.
 use Prim.Native.Nat.{_+_, _*_, _-_, _≤_}
 use native.Mathlib.Omega.{arith}
-use Rattle.bits.proofs.Rows.{Joining, joining-none, joining-more, row-unread, row-joined}
+use Rattle.bits.proofs.Rows.{Joining, joining-more, row-unread, row-joined}
 use Rattle.bits.proofs.join_row.Statement.{statement}
 use Rattle.bits.proofs.join_row.Tie as tie
 
