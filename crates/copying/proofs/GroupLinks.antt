@@ -1,4 +1,4 @@
--- The links of the fair copy's groups: each link between episodes, once. So the fair copy is at most as long as `fairNeed` says.
+-- The links of a copy's groups: each link between episodes, once. So the copy is at most as long as `fairNeed` says.
 use mathlib.Core.Path.{_≡_, sym, ap}
 use mathlib.Core.HLevel.{×-discrete}
 use mathlib.Core.Logic.{⊎-elim}
@@ -26,8 +26,8 @@ use lib.ListN.{length, length-append, length-map}
 use Rattle.order.proofs.Lists.{nodup-cons, nodup-head, nodup-tail, nodup-append, nodup-le}
 use Rattle.paths.specs.Graph.{Graph, Link}
 use Rattle.paths.proofs.Passing.{passing-nodup}
-use Rattle.copying.specs.FairCopy.{linked, linkedTo, groups, groupLinks, fairWords, fairNeed}
-use Rattle.copying.proofs.Linked.{linkedTo-mem, mem-linkedTo, length-group-le, length-fair}
+use Rattle.copying.specs.FairCopy.{linked, linkedTo, groups, groupLinks, copyWords, fairNeed}
+use Rattle.copying.proofs.Linked.{linkedTo-mem, mem-linkedTo, length-group-le, length-copy}
 
 -- the links from `a` to the members of a list
 abbrev pub linksOf : ℕ → List ℕ → List (ℕ × ℕ)
@@ -87,11 +87,11 @@ module _ (g : Graph) where
       (λ l m. group-links-mem k (l .0) (l .1) m .2)
 
   -- each group has at most two words for each of its links
-  pub length-groups : (k : ℕ) → length (groups g k) ≤ 2 * length (groupLinks g k)
+  pub length-groups : (pause : ℕ → ℕ → ℕ) (k : ℕ) → length (groups pause g k) ≤ 2 * length (groupLinks g k)
   unfolding groups groupLinks
-  length-groups zero = omega arith
-  length-groups (suc k) =
-      simp (length-append, length-map) (omega (arith, length-groups k, length-group-le k (linkedTo k (g .links) (g .n))))
+  length-groups pause zero = omega arith
+  length-groups pause (suc k) =
+      simp (length-append, length-map) (omega (arith, length-groups pause k, length-group-le k (pause k) (linkedTo k (g .links) (g .n))))
 
-  pub fair-fits : length (fairWords g) ≤ fairNeed (length (g .links))
-  fair-fits = omega (arith, length-fair g, length-groups (g .n), length-group-links (g .n))
+  pub copy-words-fit : (pause : ℕ → ℕ → ℕ) → length (copyWords pause g) ≤ fairNeed (length (g .links))
+  copy-words-fit pause = omega (arith, length-copy pause g, length-groups pause (g .n), length-group-links (g .n))

@@ -3,6 +3,7 @@ pub mod Linked
 pub mod GroupLinks
 pub mod ReadBack
 pub mod FairCopies
+pub mod Older
 pub mod Rows
 pub mod Groups
 pub mod Copies

@@ -1,97 +1,140 @@
 -- The rows of a block of episodes: their marks word by word of the log, and the links that are marked in a row.
-use mathlib.Core.Path.{_≡_, refl, ap, ap₂, _∙_}
-use mathlib.Core.Logic.{_≢_}
-use mathlib.Core.Bool.{Bool, true, false, not, _&&_, _||_, or-false, or-true}
-use mathlib.Core.List.{List, [], _∷_, _++_}
-use Prim.Native.Nat.{ℕ, _+_, _-_, _/_, _%_, _≤_, _<_}
+use mathlib.Core.Path.{_≡_, refl, ap, sym, subst, _∙_}
+use mathlib.Core.Logic.{_≢_, _⊎_, ⊎-elim}
+use mathlib.Core.Bool.{Bool, true, false, not, true≢false}
+use mathlib.Core.List.{List, [], _∷_, _++_, map, append-nil, List·Memᴰ as Mem, List·Memᴰ·head as here, List·Memᴰ·not-nil as not-nil}
+use Prim.Native.Nat.{ℕ, zero, suc, _+_, _-_, _/_, _%_, _≤_, _<_, _^_}
 use native.Mathlib.Decide.{ℕ-discrete}
 use native.Mathlib.Omega.{arith}
 use lib.Dec.{eqb}
 use lib.ListN.{length, getD, set, take, drop, replicate, length-set, length-drop, length-replicate, getD-replicate}
-use lib.Seq.{length-take-le, getD-set-same, getD-set-other, getD-take, getD-drop}
-use borrow.Author.Tests.{eq-eqb, ne-eqb}
-use Rattle.paths.specs.Graph.{Graph}
-use Rattle.log.specs.Words.{kind, number}
-use Rattle.log.specs.Log.{graphOf, PassedLog}
-use Rattle.log.proofs.Links.{linksBefore, nearestFrom}
-use Rattle.log.proofs.Laws.{well-formed, graph-episodes, to-word, before-head, pass-from, pass-to, links-passed}
+use lib.Seq.{length-take-le, getD-take, getD-drop, getD-set-same, getD-set-other}
+use borrow.Author.Tests.{ne-eqb}
+use Rattle.order.specs.Order.{All}
 use Rattle.paths.proofs.Passing.{passing-equal}
-use Rattle.copying.specs.FairCopy.{linked, linkedTo}
-use Rattle.copying.specs.Copying.{mark, blockWords, rowAt, BlockMarks, WordTaken, markedAt, marked}
-use Rattle.copying.proofs.Linked.{linked-append}
+use Rattle.log.specs.Words.{kind, toEpisode, toPause}
+use Rattle.log.specs.Content.{Heard, Content, joins, pausesOf, least, leastPause}
+use Rattle.log.specs.Log.{figure, contentOf, graphOf, PassedLog}
+use Rattle.log.proofs.Words.{figure-to}
+use Rattle.log.proofs.Links.{heardBefore, nearestFrom}
+use Rattle.log.proofs.Pauses.{pauses-append, pauses-one, pauses-none, pauses-heard, heard-pauses, link-heard, least-mem, least-more}
+use Rattle.log.proofs.Laws.{well-formed, graph-episodes, to-word, before-head, pass-from, pass-to, heard-passed}
+use Rattle.writing.specs.Layout.{BeginsWith}
+use Rattle.copying.specs.FairCopy.{linked, linkedTo, group}
+use Rattle.copying.specs.Copying.{mark, lowered, blockWords, rowAt, BlockMarks, Lowered, WordTaken, markedAt, marked, pauseAt, GroupWritten}
+use Rattle.copying.proofs.Linked.{linked-mem, mem-linked, linkedTo-mem, group-same}
 
--- one link more, from `a` or from another episode
-linked-one : (a b f x : ℕ) (ls : List (ℕ × ℕ)) → linked a b (ls ++ (f, x) ∷ []) ≡ linked a b ls || (eqb a f && eqb b x)
-unfolding linked
-linked-one a b f x ls = linked-append a b ls ((f, x) ∷ []) ∙ rw or-false
+-- the mark of a link that is heard once more, with the pause `q`
+mark-more : (ps : List ℕ) (q : ℕ) → mark (ps ++ q ∷ []) ≡ lowered (mark ps) q
+unfolding least
+mark-more [] q = refl
+mark-more (p ∷ ps) q = ap suc (least-more p ps q)
+
+mark-less : (ps : List ℕ) → mark ps - 1 ≡ least ps
+unfolding least
+mark-less [] = refl
+mark-less (p ∷ ps) = omega arith
+
+mark-short : (ps : List ℕ) → All (λ p. p < 2 ^ 12) ps → mark ps ≤ 2 ^ 12
+mark-short [] h = omega arith
+mark-short (p ∷ ps) h = h (least (p ∷ ps)) (least-mem p ps)
+
+-- where there is none, or a higher one, the pause plus one is stored; another is kept
+lowered-less : (m p : ℕ) → (m ≡ 0) ⊎ (p + 1 < m) → p + 1 ≡ lowered m p
+lowered-less zero p h = omega arith
+lowered-less (suc m) p h = ⊎-elim (λ e. omega arith) (λ l. omega arith) h
+
+lowered-same : (m p : ℕ) → m ≢ 0 → m ≤ p + 1 → m ≡ lowered m p
+lowered-same zero p ne h = absurd (ne refl)
+lowered-same (suc m) p ne h = omega arith
+
+pub mark-stored : (w : List ℕ) (at p : ℕ) → at < length w → (getD w at 0 ≡ 0) ⊎ (p + 1 < getD w at 0) → Lowered at p w (set w at (p + 1))
+mark-stored w at p h lower =
+    record {
+      same-length = length-set w at (p + 1);
+      here = getD-set-same w at (p + 1) 0 h ∙ lowered-less (getD w at 0) p lower;
+      other = λ i ne. getD-set-other w at i (p + 1) 0 ne;
+    }
+
+pub mark-kept : (w : List ℕ) (at p : ℕ) → getD w at 0 ≢ 0 → getD w at 0 ≤ p + 1 → Lowered at p w w
+mark-kept w at p some low = record { same-length = refl; here = lowered-same (getD w at 0) p some low; other = λ i ne. refl }
+
+-- the pauses of the link from `a` to `b`, once `h` is heard
+pauses-here : (h : Heard) (hs : List Heard) → pausesOf (h .from) (h .to) (hs ++ h ∷ []) ≡ pausesOf (h .from) (h .to) hs ++ h .pause ∷ []
+pauses-here h hs = pauses-append (h .from) (h .to) hs (h ∷ []) ∙ ap (λ (ps : List ℕ). pausesOf (h .from) (h .to) hs ++ ps) (pauses-one h)
+
+pauses-other : (a b : ℕ) (h : Heard) (hs : List Heard) → ((a ≡ h .from) × (b ≡ h .to) → ⊥) → pausesOf a b (hs ++ h ∷ []) ≡ pausesOf a b hs
+pauses-other a b h hs ne =
+    pauses-append a b hs (h ∷ []) ∙ ap (λ (ps : List ℕ). pausesOf a b hs ++ ps) (pauses-none a b h ne) ∙ append-nil (pausesOf a b hs)
 
 pub passed-few : (l : List ℕ) → PassedLog l → graphOf l .n ≤ 256
 passed-few l (m, n, t, e, few) = omega (arith, graph-episodes m l n t e)
 
--- a graph with `n` episodes and these links
-abbrev graph : ℕ → List (ℕ × ℕ) → Graph
-graph n ls = record { n = n; links = ls }
+-- `n` episodes and these links
+abbrev content : ℕ → List Heard → Content
+content n hs = record { n = n; heard = hs }
 
 -- words that are zero mark no link
-marks-none : (block n : ℕ) (w : List ℕ) → w ≡ replicate (length w) 0 → n ≤ 256 → length w ≡ blockWords → BlockMarks block (graph n []) w
-unfolding linked
+marks-none : (block n : ℕ) (w : List ℕ) → w ≡ replicate (length w) 0 → n ≤ 256 → length w ≡ blockWords → BlockMarks block (content n []) w
+unfolding pausesOf
 marks-none block n w e few long a b h l = rw e (getD-replicate (length w) (rowAt a + b) 0 0 (omega arith))
 
 -- a link from an episode of the block is marked in its row
-marks-here : (block n f x : ℕ) (ls : List (ℕ × ℕ)) (w : List ℕ) → n ≤ 256 → x < 256 → length w ≡ blockWords → f / 64 ≡ block
-    → BlockMarks block (graph n ls) w → BlockMarks block (graph n (ls ++ (f, x) ∷ [])) (set w (rowAt f + x) 1)
-marks-here block n f x ls w few hx long hf m a b h l = rw (linked-one a b f x ls) (go (ℕ-discrete a f) (ℕ-discrete b x))
+marks-here : (block n : ℕ) (k : Heard) (hs : List Heard) (w w′ : List ℕ) → n ≤ 256 → k .to < 256 → k .from / 64 ≡ block
+    → BlockMarks block (content n hs) w → Lowered (rowAt (k .from) + k .to) (k .pause) w w′ → BlockMarks block (content n (hs ++ k ∷ [])) w′
+marks-here block n k hs w w′ few low hf m d a b h l = go (ℕ-discrete a (k .from)) (ℕ-discrete b (k .to))
   where
-    Now : Type 0
-    Now = getD (set w (rowAt f + x) 1) (rowAt a + b) 0 ≡ mark (linked a b ls || (eqb a f && eqb b x))
+    other : rowAt a + b ≢ rowAt (k .from) + k .to → ((a ≡ k .from) × (b ≡ k .to) → ⊥)
+        → getD w′ (rowAt a + b) 0 ≡ mark (pausesOf a b (hs ++ k ∷ []))
+    other ne apart = rw (pauses-other a b k hs apart) (d .other (rowAt a + b) ne ∙ m a b h l)
 
-    other : rowAt a + b ≢ rowAt f + x → eqb a f && eqb b x ≡ false → Now
-    other ne e = rw (e, or-false) (getD-set-other w (rowAt f + x) (rowAt a + b) 1 0 ne ∙ m a b h l)
-
-    go : Dec (a ≡ f) → Dec (b ≡ x) → Now
-    go (yes e) (yes d) =
-        let place : rowAt a + b ≡ rowAt f + x = ap₂ (λ (y z : ℕ). rowAt y + z) e d in
-        rw (place, eq-eqb a f e, eq-eqb b x d, or-true) (getD-set-same w (rowAt f + x) 1 0 (omega arith))
-    go (no ne) d = other (λ q. ne (omega arith)) (rw (ne-eqb a f ne))
-    go (yes e) (no ne) = other (λ q. ne (omega arith)) (rw (eq-eqb a f e, ne-eqb b x ne))
+    go : Dec (a ≡ k .from) → Dec (b ≡ k .to) → getD w′ (rowAt a + b) 0 ≡ mark (pausesOf a b (hs ++ k ∷ []))
+    go (yes e) (yes f) =
+        let before : getD w (rowAt (k .from) + k .to) 0 ≡ mark (pausesOf (k .from) (k .to) hs) = rw (e, f) at (m a b h l) in
+        rw (e, f, pauses-here k hs, mark-more (pausesOf (k .from) (k .to) hs) (k .pause), ← before) (d .here)
+    go (no ne) f = other (λ q. ne (omega arith)) (λ q. ne (q .0))
+    go (yes e) (no ne) = other (λ q. ne (omega arith)) (λ q. ne (q .1))
 
 -- a link from another episode is not marked
-marks-other : (block n f x : ℕ) (ls : List (ℕ × ℕ)) (w : List ℕ) → f / 64 ≢ block → BlockMarks block (graph n ls) w
-    → BlockMarks block (graph n (ls ++ (f, x) ∷ [])) w
-marks-other block n f x ls w ne m a b h l = rw (linked-one a b f x ls, ne-eqb a f (λ e. ne (omega arith)), or-false) (m a b h l)
+marks-other : (block n : ℕ) (k : Heard) (hs : List Heard) (w : List ℕ) → k .from / 64 ≢ block → BlockMarks block (content n hs) w
+    → BlockMarks block (content n (hs ++ k ∷ [])) w
+marks-other block n k hs w ne m a b h l = rw (pauses-other a b k hs (λ q. ne (omega (arith, q .0)))) (m a b h l)
 
 -- at place `p` the block marks the links of the words before it, and `from` is the nearest from word's number
 pub record Marking (l w w′ : List ℕ) (block from p : ℕ) : Type 0 where
   pub behind : 0 < p
   pub within : p < length l
   pub same-length : length w′ ≡ length w
-  pub marks : BlockMarks block (graph (graphOf l .n) (linksBefore l p)) w′
+  pub marks : BlockMarks block (content (graphOf l .n) (heardBefore l p)) w′
   pub nearest : 1 < p → from ≡ nearestFrom l p
 
 pub marking-start : (l w : List ℕ) (block : ℕ) → PassedLog l → length w ≡ blockWords → w ≡ replicate (length w) 0 → Marking l w w block 0 1
 marking-start l w block passed long zeros =
     let (m, n, t, e, few) = passed in
     let two : 2 ≤ length l = well-formed m l n t e .long in
-    let none : linksBefore l 1 ≡ [] = before-head l (omega arith) in
     record {
       behind = omega arith;
       within = omega arith;
       same-length = refl;
-      marks = rw none (marks-none block (graphOf l .n) w zeros (passed-few l passed) long);
+      marks = rw (before-head l (omega arith)) (marks-none block (graphOf l .n) w zeros (passed-few l passed) long);
       nearest = λ h. absurd (omega arith);
     }
 
 -- what holds of the word at a place between head and end
 module _ (l w w′ : List ℕ) (block from p : ℕ) (passed : PassedLog l) (s : Marking l w w′ block from p) (inner : p + 1 < length l) where
-  -- its number is an episode's
-  pub number-below : number (getD l p 0) < 256
-  number-below =
-      let (m, n, t, e, few) = passed in
-      let b : number (getD l p 0) < n = well-formed m l n t e .below p (s .behind) inner in
-      omega arith
-
   to-here : kind (getD l p 0) ≢ 2 → (kind (getD l p 0) ≡ 3) × (1 < p)
   to-here other = let (m, n, t, e, few) = passed in to-word m l n t e p (s .behind) inner other
+
+  -- a to word gives an episode
+  pub episode-below : kind (getD l p 0) ≢ 2 → toEpisode (getD l p 0) < 256
+  episode-below other =
+      let (m, n, t, e, few) = passed in
+      let b : figure (getD l p 0) < n = well-formed m l n t e .below p (s .behind) inner in
+      omega (arith, figure-to (getD l p 0) (to-here other .0))
+
+  -- the link that it gives
+  abbrev link : Heard
+  link = record { from = from; to = toEpisode (getD l p 0); pause = toPause (getD l p 0) }
 
   pub marking-on : length w ≡ blockWords → {r : ℕ} {w″ : List ℕ} → WordTaken (getD l p 0) from block r w′ w″ → Marking l w w″ block r (p + 1)
   marking-on long {r} {w″} d = go (ℕ-discrete (kind (getD l p 0)) 2) (ℕ-discrete (from / 64) block)
@@ -110,15 +153,14 @@ module _ (l w w′ : List ℕ) (block from p : ℕ) (passed : PassedLog l) (s : 
       go (no k) (yes same) =
           let (more, near) = pass-to l p (s .behind) (s .within) (to-here k .0) in
           let is-nearest = s .nearest (to-here k .1) in
-          let (kept, new) = d .of-to k same in
+          let (kept, low) = d .of-to k same in
           record {
             behind = omega arith;
             within = inner;
-            same-length = rw (new, length-set w′ (rowAt from + number (getD l p 0)) 1) (s .same-length);
+            same-length = low .same-length ∙ s .same-length;
             marks =
-                rw (more, ← is-nearest, new)
-                (marks-here block (graphOf l .n) from (number (getD l p 0)) (linksBefore l p) w′ (passed-few l passed) number-below (s .same-length ∙ long) same
-                (s .marks));
+                rw (more, ← is-nearest)
+                (marks-here block (graphOf l .n) link (heardBefore l p) w′ w″ (passed-few l passed) (episode-below k) same (s .marks) low);
             nearest = λ h. cc;
           }
       go (no k) (no other) =
@@ -129,44 +171,80 @@ module _ (l w w′ : List ℕ) (block from p : ℕ) (passed : PassedLog l) (s : 
             behind = omega arith;
             within = inner;
             same-length = rw same (s .same-length);
-            marks =
-                rw (more, ← is-nearest, same)
-                (marks-other block (graphOf l .n) from (number (getD l p 0)) (linksBefore l p) w′ other (s .marks));
+            marks = rw (more, ← is-nearest, same) (marks-other block (graphOf l .n) link (heardBefore l p) w′ other (s .marks));
             nearest = λ h. cc;
           }
 
 -- at the last word the block marks the links of the log
-pub marking-end : (l w w′ : List ℕ) (block from p : ℕ) → PassedLog l → Marking l w w′ block from p → length l ≤ p + 1 → BlockMarks block (graphOf l) w′
+pub marking-end : (l w w′ : List ℕ) (block from p : ℕ) → PassedLog l → Marking l w w′ block from p → length l ≤ p + 1 → BlockMarks block (contentOf l) w′
 marking-end l w w′ block from p (m, n, t, e, few) s h =
     let last : p ≡ length l - 1 = omega (arith, s .within) in
-    rw (links-passed m l n t e) at (rw last at (s .marks))
+    rw (heard-passed m l n t e) at (rw last at (s .marks))
 
 -- the row holds the mark of each link from `a`
-abbrev Marks : ℕ → List (ℕ × ℕ) → List ℕ → Type 0
-Marks a ls row = (b : ℕ) → b < length row → getD row b 0 ≡ mark (linked a b ls)
+abbrev Marks : ℕ → List Heard → List ℕ → Type 0
+Marks a hs row = (b : ℕ) → b < length row → getD row b 0 ≡ mark (pausesOf a b hs)
 
--- what is marked is what `a` is linked to
-marked-linked : (a : ℕ) (ls : List (ℕ × ℕ)) (row : List ℕ) (k : ℕ) → k ≤ length row → Marks a ls row → marked row k ≡ linkedTo a ls k
-marked-linked a ls row k h m = passing-equal (markedAt row) (λ b. linked a b ls) k (λ b l. rw (m b (omega arith)) (test (linked a b ls)))
+-- a link is marked exactly where it was heard
+mark-linked : (a b : ℕ) (hs : List Heard) → not (eqb (mark (pausesOf a b hs)) 0) ≡ linked a b (map joins hs)
+mark-linked a b hs = go (pausesOf a b hs) refl (linked a b (map joins hs)) refl
   where
-    test : (x : Bool) → not (eqb (mark x) 0) ≡ x
-    test true = refl
-    test false = refl
+    go : (ps : List ℕ) → pausesOf a b hs ≡ ps → (x : Bool) → linked a b (map joins hs) ≡ x → not (eqb (mark ps) 0) ≡ x
+    go [] e true f =
+        let (p, h) = link-heard (content 0 hs) a b .0 (linked-mem a b (map joins hs) f) in
+        absurd (not-nil (rw e at (heard-pauses a b p hs h)))
+    go [] e false f = refl
+    go (p ∷ ps) e true f = rw (ne-eqb (mark (p ∷ ps)) 0 (λ q. omega arith))
+    go (p ∷ ps) e false f =
+        let h = pauses-heard a b p hs (rw e (here refl)) in
+        absurd (true≢false (sym (mem-linked a b (map joins hs) (link-heard (content 0 hs) a b .1 (p, h))) ∙ f))
+
+module _ (a : ℕ) (hs : List Heard) (row : List ℕ) (m : Marks a hs row) where
+  -- what is marked is what `a` is linked to
+  marked-linked : (k : ℕ) → k ≤ length row → marked row k ≡ linkedTo a (map joins hs) k
+  marked-linked k h =
+      passing-equal (markedAt row) (λ b. linked a b (map joins hs)) k (λ b l. rw (m b (omega arith)) (mark-linked a b hs))
+
+  -- and the mark holds the least pause
+  marked-pause : (b : ℕ) → b < length row → pauseAt row b ≡ least (pausesOf a b hs)
+  marked-pause b h = rw (m b h) (mark-less (pausesOf a b hs))
 
 -- the row of `a` in its block, as it is lent
 abbrev pub rowOf : ℕ → ℕ → List ℕ → List ℕ
 rowOf a n w = take (rowAt a + n - rowAt a) (drop (rowAt a) w)
 
-pub row-marks : (g : Graph) (a n : ℕ) (w : List ℕ) → g .n ≡ n → n ≤ 256 → length w ≡ blockWords → BlockMarks (a / 64) g w
-    → (length (rowOf a n w) ≡ n) × (marked (rowOf a n w) (length (rowOf a n w)) ≡ linkedTo a (g .links) n)
-row-marks g a n w e few long m =
-    let rest : length (drop (rowAt a) w) ≡ length w - rowAt a = length-drop (rowAt a) w in
-    let size : length (rowOf a n w) ≡ n = length-take-le (rowAt a + n - rowAt a) (drop (rowAt a) w) (omega arith) ∙ omega arith in (
-      size,
-      marked-linked a (g .links) (rowOf a n w) (length (rowOf a n w)) (omega arith)
-          (λ b h. getD-take (rowAt a + n - rowAt a) (drop (rowAt a) w) b 0 (omega arith) ∙ getD-drop (rowAt a) w b 0 ∙ m a b refl (omega arith))
-          ∙ ap (linkedTo a (g .links)) size,
-    )
+module _ (c : Content) (a n : ℕ) (w : List ℕ) (e : c .n ≡ n) (few : n ≤ 256) (long : length w ≡ blockWords) (m : BlockMarks (a / 64) c w) where
+  pub row-length : length (rowOf a n w) ≡ n
+  row-length =
+      let rest : length (drop (rowAt a) w) ≡ length w - rowAt a = length-drop (rowAt a) w in
+      length-take-le (rowAt a + n - rowAt a) (drop (rowAt a) w) (omega arith) ∙ omega arith
+
+  row-holds : Marks a (c .heard) (rowOf a n w)
+  row-holds b h =
+      getD-take (rowAt a + n - rowAt a) (drop (rowAt a) w) b 0 (omega (arith, row-length)) ∙ getD-drop (rowAt a) w b 0 ∙ m a b refl (omega (arith, row-length))
+
+  row-marks : marked (rowOf a n w) (length (rowOf a n w)) ≡ linkedTo a (map joins (c .heard)) n
+  row-marks =
+      marked-linked a (c .heard) (rowOf a n w) row-holds (length (rowOf a n w)) (omega arith)
+      ∙ ap (linkedTo a (map joins (c .heard))) row-length
+
+  -- a mark is at most 4,096
+  pub row-short : ((h : Heard) → Mem h (c .heard) → h .pause < 2 ^ 12) → (b : ℕ) → b < length (rowOf a n w) → getD (rowOf a n w) b 0 ≤ 2 ^ 12
+  row-short short b h = rw (row-holds b h) (mark-short (pausesOf a b (c .heard)) (λ p i. short _ (pauses-heard a b p (c .heard) i)))
+
+  -- so a group that is written from the row has the links of `a` with their least pauses
+  pub row-words : group a (pauseAt (rowOf a n w)) (marked (rowOf a n w) (length (rowOf a n w))) ≡ group a (leastPause c a) (linkedTo a (map joins (c .heard)) n)
+  row-words =
+      ap (group a (pauseAt (rowOf a n w))) row-marks
+      ∙ group-same a (pauseAt (rowOf a n w)) (leastPause c a) (linkedTo a (map joins (c .heard)) n)
+      (λ b i.
+      let below = linkedTo-mem a (map joins (c .heard)) b n i .0 in
+      marked-pause a (c .heard) (rowOf a n w) row-holds b (omega (arith, row-length)))
+
+  pub row-written : (o o′ : List ℕ) (r : ℕ)
+      → GroupWritten a (pauseAt (rowOf a n w)) (marked (rowOf a n w) (length (rowOf a n w))) o o′ r
+      → GroupWritten a (leastPause c a) (linkedTo a (map joins (c .heard)) n) o o′ r
+  row-written o o′ r d = record { count = d .count ∙ ap length row-marks; words = subst (λ (ws : List ℕ). BeginsWith ws o o′) row-words (d .words) }
 
 -- words that have been made zero
 pub cleared-block : (w w₁ : List ℕ) → length w ≡ blockWords → w₁ ≡ replicate (length w) 0
@@ -176,8 +254,8 @@ cleared-block w w₁ long e =
     (same ∙ long, rw same e)
 
 -- the block of `a` is that of the next episode too, unless that one is the first of its block
-pub next-block : (a : ℕ) (g : Graph) (w : List ℕ) → BlockMarks (a / 64) g w → (a + 1) % 64 ≢ 0 → BlockMarks ((a + 1) / 64) g w
-next-block a g w m ne x b h l = let same : (a + 1) / 64 ≡ a / 64 = go (ℕ-discrete ((a + 1) % 64) 0) in m x b (h ∙ same) l
+pub next-block : (a : ℕ) (c : Content) (w : List ℕ) → BlockMarks (a / 64) c w → (a + 1) % 64 ≢ 0 → BlockMarks ((a + 1) / 64) c w
+next-block a c w m ne x b h l = let same : (a + 1) / 64 ≡ a / 64 = go (ℕ-discrete ((a + 1) % 64) 0) in m x b (h ∙ same) l
   where
     go : Dec ((a + 1) % 64 ≡ 0) → (a + 1) / 64 ≡ a / 64
     go (yes e) = absurd (ne e)

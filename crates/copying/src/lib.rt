@@ -2,26 +2,38 @@
 // episode; then the marked ones are written, row by row.
 ghost use mathlib.Core.Path.{_≡_};
 ghost use mathlib.Core.Logic.{_≢_};
-ghost use Prim.Native.Nat.{_/_, _%_, _^_, _<_, _≤_};
-ghost use lib.ListN.{length, replicate, set};
-ghost use Rattle.log.specs.Words.{number, word, Small};
-ghost use Rattle.log.specs.Log.{graphOf, PassedLog};
+ghost use Prim.Native.Nat.{ℕ, _/_, _%_, _^_, _<_, _≤_};
+ghost use lib.ListN.{length, getD, replicate, set};
+ghost use Rattle.log.specs.Words.{kind, toEpisode, word, Small};
+ghost use Rattle.log.specs.Content.{leastPause};
+ghost use Rattle.log.specs.Log.{contentOf, graphOf, PassedLog};
 ghost use Rattle.writing.specs.Layout.{BeginsWith};
 ghost use Rattle.copying.specs.FairCopy.{linkedTo, group, fairWords};
-ghost use Rattle.copying.specs.Copying.{blockWords, BlockMarks, WordTaken, marked, groupLength, GroupWritten, GroupsWritten};
+ghost use Rattle.copying.specs.Copying.{blockWords, BlockMarks, Lowered, WordTaken, marked, pauseAt, groupLength, GroupWritten, GroupsWritten};
+
+// Lowers the mark at `at` to the pause plus one, where there is none yet or a higher one.
+fn lower(w: &mut [u32], at: usize, pause: u32)
+    requires { ⌜ (at < length (now w)) × (pause < 2 ^ 12) ⌝ }
+    ensures { λ _. ⌜ Lowered at pause (now (w .entry)) (now (w .exit)) ⌝ }
+{
+    let mark = w[at];
+    if mark == 0 || pause + 1 < mark {
+        w[at] = pause + 1;
+    }
+}
 
 // Takes a word between head and end: a from word's number is given back, and a to word is marked in the row of `from` if that is in the
 // block.
 fn take_word(word: u32, from: usize, block: usize, w: &mut [u32]) -> usize
-    requires { ⌜ (number word < 256) × (length (now w) ≡ blockWords) ⌝ }
+    requires { ⌜ (kind word ≢ 2 → toEpisode word < 256) × (length (now w) ≡ blockWords) ⌝ }
     ensures { λ r. ⌜ WordTaken word from block r (now (w .entry)) (now (w .exit)) ⌝ }
 {
-    let number = log::number_of(word);
     if log::kind_of(word) == 2 {
-        return number;
+        return log::number_of(word);
     }
     if from / 64 == block {
-        w[from % 64 * 256 + number] = 1;
+        let to = log::to_word_of(word);
+        lower(w, from % 64 * 256 + to.episode, to.pause);
     }
     from
 }
@@ -29,7 +41,7 @@ fn take_word(word: u32, from: usize, block: usize, w: &mut [u32]) -> usize
 // Marks the links of a log from the episodes of a block, in words that are zero.
 fn mark_block(log: &[u32], block: usize, w: &mut [u32])
     requires { ⌜ PassedLog (now log) × (length (now w) ≡ blockWords) × (now w ≡ replicate (length (now w)) 0) ⌝ }
-    ensures { λ _. ⌜ BlockMarks block (graphOf (now (log .entry))) (now (w .exit)) ⌝ }
+    ensures { λ _. ⌜ BlockMarks block (contentOf (now (log .entry))) (now (w .exit)) ⌝ }
 {
     let mut from = 0;
     let mut at = 1;
@@ -41,8 +53,8 @@ fn mark_block(log: &[u32], block: usize, w: &mut [u32])
 
 // The marks of the block that `a` is in, made where it is the first episode there.
 fn block_of(log: &[u32], a: usize, w: &mut [u32])
-    requires { ⌜ PassedLog (now log) × (length (now w) ≡ blockWords) × (a % 64 ≢ 0 → BlockMarks (a / 64) (graphOf (now log)) (now w)) ⌝ }
-    ensures { λ _. ⌜ BlockMarks (a / 64) (graphOf (now (log .entry))) (now (w .exit)) ⌝ }
+    requires { ⌜ PassedLog (now log) × (length (now w) ≡ blockWords) × (a % 64 ≢ 0 → BlockMarks (a / 64) (contentOf (now log)) (now w)) ⌝ }
+    ensures { λ _. ⌜ BlockMarks (a / 64) (contentOf (now (log .entry))) (now (w .exit)) ⌝ }
 {
     if a % 64 == 0 {
         bits::clear(w);
@@ -52,16 +64,19 @@ fn block_of(log: &[u32], a: usize, w: &mut [u32])
 
 // Writes the group of `a` from its row, and gives the count of its links.
 fn write_group(row: &[u32], a: usize, out: &mut [u32]) -> usize
-    requires { ⌜ (length (group a (marked (now row) (length (now row)))) < length (now out))
-        × (a < length (now row)) × (length (now row) < 2 ^ 28) ⌝ }
-    ensures { λ r. ⌜ GroupWritten a (marked (now (row .entry)) (length (now (row .entry)))) (now (out .entry)) (now (out .exit)) r ⌝ }
+    requires { ⌜ (length (group a (pauseAt (now row)) (marked (now row) (length (now row)))) < length (now out))
+        × (a < length (now row)) × (length (now row) < 2 ^ 16)
+        × ((b : ℕ) → b < length (now row) → getD (now row) b 0 ≤ 2 ^ 12) ⌝ }
+    ensures { λ r. ⌜ GroupWritten a (pauseAt (now (row .entry))) (marked (now (row .entry)) (length (now (row .entry))))
+        (now (out .entry)) (now (out .exit)) r ⌝ }
 {
     let mut links = 0;
     let mut b = 0;
     while b < row.len() {
-        if row[b] != 0 {
+        let mark = row[b];
+        if mark != 0 {
             links += 1;
-            out[links] = 0x3000_0000 + b as u32;
+            out[links] = 0x3000_0000 + (mark - 1) * 0x1_0000 + b as u32;
         }
         b += 1;
     }
@@ -74,10 +89,11 @@ fn write_group(row: &[u32], a: usize, out: &mut [u32]) -> usize
 // The links of `a`, marked and written.
 fn copy_row(log: &[u32], n: usize, a: usize, out: &mut [u32], w: &mut [u32]) -> usize
     requires { ⌜ PassedLog (now log) × (graphOf (now log) .n ≡ n) × (n ≤ 256) × (length (now w) ≡ blockWords)
-        × (a % 64 ≢ 0 → BlockMarks (a / 64) (graphOf (now log)) (now w))
-        × (a < n) × (length (group a (linkedTo a (graphOf (now log) .links) n)) < length (now out)) ⌝ }
-    ensures { λ r. ⌜ BlockMarks (a / 64) (graphOf (now (log .entry))) (now (w .exit))
-        × GroupWritten a (linkedTo a (graphOf (now (log .entry)) .links) n) (now (out .entry)) (now (out .exit)) r ⌝ }
+        × (a % 64 ≢ 0 → BlockMarks (a / 64) (contentOf (now log)) (now w))
+        × (a < n) × (length (group a (leastPause (contentOf (now log)) a) (linkedTo a (graphOf (now log) .links) n)) < length (now out)) ⌝ }
+    ensures { λ r. ⌜ BlockMarks (a / 64) (contentOf (now (log .entry))) (now (w .exit))
+        × GroupWritten a (leastPause (contentOf (now (log .entry))) a) (linkedTo a (graphOf (now (log .entry)) .links) n)
+        (now (out .entry)) (now (out .exit)) r ⌝ }
 {
     block_of(log, a, w);
     let row = a % 64 * 256;
@@ -101,8 +117,8 @@ pub struct Written {
 // Writes the groups of all episodes behind the first word.
 fn write_groups(log: &[u32], n: usize, out: &mut [u32], w: &mut [u32]) -> Written
     requires { ⌜ PassedLog (now log) × (graphOf (now log) .n ≡ n) × (length (now w) ≡ blockWords)
-        × (length (fairWords (graphOf (now log))) ≤ length (now out)) ⌝ }
-    ensures { λ r. ⌜ GroupsWritten (graphOf (now (log .entry))) (now (out .entry)) (now (out .exit)) (r .words) (r .links) ⌝ }
+        × (length (fairWords (contentOf (now log))) ≤ length (now out)) ⌝ }
+    ensures { λ r. ⌜ GroupsWritten (leastPause (contentOf (now (log .entry)))) (graphOf (now (log .entry))) (now (out .entry)) (now (out .exit)) (r .words) (r .links) ⌝ }
 {
     let mut words = 1;
     let mut links = 0;
@@ -128,9 +144,9 @@ pub fn write_ends(n: usize, words: usize, links: usize, out: &mut [u32])
 // Writes the fair copy of a log that passes with `n` episodes, and gives its count of words.
 pub fn write_copy(log: &[u32], n: usize, out: &mut [u32], w: &mut [u32]) -> usize
     requires { ⌜ PassedLog (now log) × (graphOf (now log) .n ≡ n) × (length (now w) ≡ blockWords)
-        × (length (fairWords (graphOf (now log))) ≤ length (now out)) ⌝ }
-    ensures { λ r. ⌜ (r ≡ length (fairWords (graphOf (now (log .entry)))))
-        × BeginsWith (fairWords (graphOf (now (log .entry)))) (now (out .entry)) (now (out .exit)) ⌝ }
+        × (length (fairWords (contentOf (now log))) ≤ length (now out)) ⌝ }
+    ensures { λ r. ⌜ (r ≡ length (fairWords (contentOf (now (log .entry)))))
+        × BeginsWith (fairWords (contentOf (now (log .entry)))) (now (out .entry)) (now (out .exit)) ⌝ }
 {
     let groups = write_groups(log, n, out, w);
     let words = groups.words;

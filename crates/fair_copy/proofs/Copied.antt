@@ -5,7 +5,7 @@ use mathlib.Core.List.{List, _++_}
 use Prim.Native.Nat.{ℕ}
 use lib.ListN.{length, take, drop}
 use Rattle.log.specs.Answer.{given, refused}
-use Rattle.log.specs.Log.{questions, graphOf}
+use Rattle.log.specs.Log.{questions, contentOf, graphOf}
 use Rattle.log.specs.declared.Ceilings.{Ceilings}
 use Rattle.writing.proofs.Buffers.{begins-words}
 use Rattle.copying.specs.FairCopy.{fairWords, fairNeed}
@@ -21,8 +21,8 @@ use Rattle.report.proofs.Outcomes.{Leaves, denied, gave}
 pub record CopyGiven (m : Ceilings) (l o w o′ w′ : List ℕ) (c : ℕ) : Type 0 where
   pub passes : copyAsked m l (length o) (length w) ≡ given (graphOf l .n, length (graphOf l .links))
   pub read : questions m l ≡ given (graphOf l .n, length (graphOf l .links))
-  pub words : take c o′ ≡ fairWords (graphOf l)
-  pub count : c ≡ length (fairWords (graphOf l))
+  pub words : take c o′ ≡ fairWords (contentOf l)
+  pub count : c ≡ length (fairWords (contentOf l))
   pub unchanged : o′ ≡ take c o′ ++ drop c o
   pub work : w′ ≡ cleared w
 
@@ -30,7 +30,7 @@ module _ (m : Ceilings) (l o w o′ w′ : List ℕ) where
   copied-left : (c : ℕ) → CopyLeft m l o w o′ w′ (Copied c) → CopyGiven m l o w o′ w′ c
   unfolding CopyLeft
   copied-left c (passes, count, begins, work) =
-      let (words, unchanged) = begins-words (fairWords (graphOf l)) o o′ begins c count in
+      let (words, unchanged) = begins-words (fairWords (contentOf l)) o o′ begins c count in
       record {
         passes = passes;
         read = asked-given m (λ n t. fairNeed t) l (length o) (length w) (graphOf l .n) (length (graphOf l .links)) passes .0;

@@ -4,7 +4,7 @@ use mathlib.Core.List.{List}
 use Prim.Native.Nat.{ℕ}
 use lib.ListN.{length}
 use Rattle.log.specs.Answer.{given, refused}
-use Rattle.log.specs.Log.{graphOf}
+use Rattle.log.specs.Log.{contentOf, graphOf}
 use Rattle.log.specs.declared.Ceilings.{Ceilings}
 use Rattle.log.proofs.Laws.{graph-episodes, graph-count}
 use Rattle.writing.specs.Layout.{BeginsWith}
@@ -28,6 +28,6 @@ asked-graph m l out work n t e =
 
 -- copied
 pub copy-left : (m : Ceilings) (l o w : List ℕ) (n t : ℕ) → copyAsked m l (length o) (length w) ≡ given (n, t) → (o′ : List ℕ) {w′ : List ℕ} {c : ℕ}
-    → c ≡ length (fairWords (graphOf l)) → BeginsWith (fairWords (graphOf l)) o o′ → w′ ≡ cleared w → CopyLeft m l o w o′ w′ (Copied c)
+    → c ≡ length (fairWords (contentOf l)) → BeginsWith (fairWords (contentOf l)) o o′ → w′ ≡ cleared w → CopyLeft m l o w o′ w′ (Copied c)
 unfolding CopyLeft
 copy-left m l o w n t e o′ count begins clean = (asked-graph m l (length o) (length w) n t e, sym count, begins, clean)

@@ -4,7 +4,7 @@ use mathlib.Core.List.{List}
 use Prim.Native.Nat.{ℕ}
 use lib.ListN.{length}
 use Rattle.log.specs.Answer.{Answer, given, refused}
-use Rattle.log.specs.Log.{graphOf}
+use Rattle.log.specs.Log.{contentOf, graphOf}
 use Rattle.log.specs.declared.Ceilings.{Ceilings}
 use Rattle.writing.specs.Layout.{BeginsWith}
 use Rattle.copying.specs.FairCopy.{fairWords, fairNeed}
@@ -26,4 +26,4 @@ unfoldable pub CopyLeft : Ceilings → List ℕ → List ℕ → List ℕ → Li
 CopyLeft m l o w o′ w′ (Refused q p) = (copyAsked m l (length o) (length w) ≡ refused q p) × (o′ ≡ o) × (w′ ≡ w)
 CopyLeft m l o w o′ w′ (Copied c) =
     (copyAsked m l (length o) (length w) ≡ given (graphOf l .n, length (graphOf l .links)))
-    × (length (fairWords (graphOf l)) ≡ c) × BeginsWith (fairWords (graphOf l)) o o′ × (w′ ≡ cleared w)
+    × (length (fairWords (contentOf l)) ≡ c) × BeginsWith (fairWords (contentOf l)) o o′ × (w′ ≡ cleared w)

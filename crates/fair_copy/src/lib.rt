@@ -3,7 +3,7 @@ ghost use mathlib.Core.Path.{_≡_};
 ghost use Prim.Native.Nat.{_≤_};
 ghost use lib.ListN.{length, replicate};
 ghost use Rattle.log.specs.Answer.{readAnswer};
-ghost use Rattle.log.specs.Log.{service, graphOf, PassedLog};
+ghost use Rattle.log.specs.Log.{service, contentOf, graphOf, PassedLog};
 ghost use Rattle.writing.specs.Layout.{BeginsWith};
 ghost use Rattle.copying.specs.FairCopy.{fairWords};
 ghost use Rattle.report.specs.Report.{workWords};
@@ -21,9 +21,9 @@ pub enum CopyOutcome {
 // The fair copy of a log that passes, in work words of which none is left as it was.
 fn copy(log: &[u32], n: usize, out: &mut [u32], work: &mut [u32]) -> usize
     requires { ⌜ PassedLog (now log) × (graphOf (now log) .n ≡ n)
-        × (length (fairWords (graphOf (now log))) ≤ length (now out)) × (length (now work) ≡ workWords) ⌝ }
-    ensures { λ r. ⌜ (r ≡ length (fairWords (graphOf (now (log .entry)))))
-        × BeginsWith (fairWords (graphOf (now (log .entry)))) (now (out .entry)) (now (out .exit))
+        × (length (fairWords (contentOf (now log))) ≤ length (now out)) × (length (now work) ≡ workWords) ⌝ }
+    ensures { λ r. ⌜ (r ≡ length (fairWords (contentOf (now (log .entry)))))
+        × BeginsWith (fairWords (contentOf (now (log .entry)))) (now (out .entry)) (now (out .exit))
         × (now (work .exit) ≡ replicate (length (now (work .entry))) 0) ⌝ }
 {
     let words = copying::write_copy(log, n, out, work);

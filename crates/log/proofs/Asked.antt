@@ -11,10 +11,11 @@ use lib.Dec.{ltb, leb, eqb}
 use lib.ListN.{length, getD, drop, length-drop}
 use lib.Seq.{getD-drop}
 use borrow.Author.Tests.{lt-ltb, le-ltb, lt-leb, le-leb, leb-true, ltb-true, eqb-true, eqb-false, eq-eqb, ne-eqb}
-use Rattle.log.specs.Words.{kind, number}
+use Rattle.log.specs.Words.{kind, number, toEpisode, toPause}
 use Rattle.log.specs.Answer.{Answer, given, refused, question}
 use Rattle.log.specs.Log.{toBeforeLast, headWord, groupWord, endWord}
 use Rattle.log.specs.declared.Ceilings.{Ceilings}
+use Rattle.log.proofs.Words.{figure-from, figure-to, minutes-from, minutes-to}
 
 -- a question that is answered no, and one that is answered yes
 pub denied : {A : Type 0} (k p : ℕ) (b : Bool) (next : Answer A) → b ≡ false → refused k p ≡ question k p b next
@@ -31,7 +32,7 @@ module _ (m : Ceilings) (w k x : ℕ) (is-kind : k ≡ kind w) (is-number : x �
   pub too-many : k ≡ 1 → m .episodes < x → refused 3 0 ≡ headWord m w
   too-many h g = rw (← is-kind, eq-eqb k 1 h, ← is-number, lt-leb x (m .episodes) g)
 
-  pub head-taken : k ≡ 1 → x ≤ m .episodes → given (k, x) ≡ headWord m w
+  pub head-taken : k ≡ 1 → x ≤ m .episodes → given (k, x, 0) ≡ headWord m w
   head-taken h g = rw (← is-kind, eq-eqb k 1 h, ← is-number, le-leb x (m .episodes) g)
 
 -- the last word
@@ -44,7 +45,7 @@ module _ (p w t k x : ℕ) (is-kind : k ≡ kind w) (is-number : x ≡ number w)
   unfolding endWord
   miscounted h g = rw (← is-kind, eq-eqb k 15 h, ← is-number, ne-eqb x t g)
 
-  pub end-passed : k ≡ 15 → x ≡ t → given (k, x) ≡ endWord p w t
+  pub end-passed : k ≡ 15 → x ≡ t → given (k, x, 0) ≡ endWord p w t
   unfolding endWord
   end-passed h g = rw (← is-kind, eq-eqb k 15 h, ← is-number, eq-eqb x t g)
 
@@ -90,15 +91,15 @@ asked k p false next a e = let none : _≡_ {A = ℕ} 0 1 = cc in absurd (omega 
 
 module _ (m : Ceilings) (n p w : ℕ) (rest : List ℕ) (from : Bool) (t : ℕ) where
   pub group-from : kind w ≡ 2
-      → groupWord m n p w rest from t ≡ question 6 p (toBeforeLast rest 0) (question 7 p (ltb (number w) n) (given (2, number w)))
+      → groupWord m n p w rest from t ≡ question 6 p (toBeforeLast rest 0) (question 7 p (ltb (number w) n) (given (2, number w, 0)))
   unfolding groupWord
-  group-from e = rw e
+  group-from e = rw (figure-from w e, minutes-from w e) (rw e)
 
   pub group-to : kind w ≡ 3
       → groupWord m n p w rest from t
-      ≡ question 5 p from (question 7 p (ltb (number w) n) (question 8 p (ltb t (m .words)) (given (3, number w))))
+      ≡ question 5 p from (question 7 p (ltb (toEpisode w) n) (question 8 p (ltb t (m .words)) (given (3, toEpisode w, toPause w))))
   unfolding groupWord
-  group-to e = rw (e, add-one)
+  group-to e = rw (figure-to w e, minutes-to w e) (rw (e, add-one))
 
   pub group-other : (kind w ≡ 2 → ⊥) → (kind w ≡ 3 → ⊥) → groupWord m n p w rest from t ≡ refused 4 p
   unfolding groupWord
@@ -113,56 +114,56 @@ pub record FromTaken (n w : ℕ) (rest : List ℕ) : Type 0 where
 pub record ToTaken (m : Ceilings) (n w : ℕ) (from : Bool) (t : ℕ) : Type 0 where
   pub is-to : kind w ≡ 3
   pub from-before : from ≡ true
-  pub below : number w < n
+  pub below : toEpisode w < n
   pub room : t < m .words
 
-pub group-taken : (m : Ceilings) (n p w : ℕ) (rest : List ℕ) (from : Bool) (t : ℕ) (a : ℕ × ℕ)
+pub group-taken : (m : Ceilings) (n p w : ℕ) (rest : List ℕ) (from : Bool) (t : ℕ) (a : ℕ × ℕ × ℕ)
     → groupWord m n p w rest from t ≡ given a → FromTaken n w rest ⊎ ToTaken m n w from t
 group-taken m n p w rest from t a e = by-kind (eqb (kind w) 2) (eqb (kind w) 3) refl refl
   where
     by-kind : (x y : Bool) → eqb (kind w) 2 ≡ x → eqb (kind w) 3 ≡ y → FromTaken n w rest ⊎ ToTaken m n w from t
     by-kind true y f g =
         let is-from = eqb-true (kind w) 2 f in
-        let six = asked 6 p (toBeforeLast rest 0) (question 7 p (ltb (number w) n) (given (2, number w))) a (sym (group-from m n p w rest from t is-from) ∙ e) in
-        let seven = asked 7 p (ltb (number w) n) (given (2, number w)) a (six .1) in
+        let six = asked 6 p (toBeforeLast rest 0) (question 7 p (ltb (number w) n) (given (2, number w, 0))) a (sym (group-from m n p w rest from t is-from) ∙ e) in
+        let seven = asked 7 p (ltb (number w) n) (given (2, number w, 0)) a (six .1) in
         inl (record { is-from = is-from; to-follows = six .0; below = ltb-true (number w) n (seven .0) })
     by-kind false true f g =
         let is-to = eqb-true (kind w) 3 g in
-        let next : Answer (ℕ × ℕ) = question 8 p (ltb t (m .words)) (given (3, number w)) in
-        let five = asked 5 p from (question 7 p (ltb (number w) n) next) a (sym (group-to m n p w rest from t is-to) ∙ e) in
-        let seven = asked 7 p (ltb (number w) n) next a (five .1) in
-        let eight = asked 8 p (ltb t (m .words)) (given (3, number w)) a (seven .1) in
-        inr (record { is-to = is-to; from-before = five .0; below = ltb-true (number w) n (seven .0); room = ltb-true t (m .words) (eight .0) })
+        let next : Answer (ℕ × ℕ × ℕ) = question 8 p (ltb t (m .words)) (given (3, toEpisode w, toPause w)) in
+        let five = asked 5 p from (question 7 p (ltb (toEpisode w) n) next) a (sym (group-to m n p w rest from t is-to) ∙ e) in
+        let seven = asked 7 p (ltb (toEpisode w) n) next a (five .1) in
+        let eight = asked 8 p (ltb t (m .words)) (given (3, toEpisode w, toPause w)) a (seven .1) in
+        inr (record { is-to = is-to; from-before = five .0; below = ltb-true (toEpisode w) n (seven .0); room = ltb-true t (m .words) (eight .0) })
     by-kind false false f g =
         let four = group-other m n p w rest from t (eqb-false (kind w) 2 f) (eqb-false (kind w) 3 g) in
         let none : _≡_ {A = ℕ} 0 1 = cc in
         absurd (omega arith)
 
 -- what the questions say of a head that is taken
-pub head-passed : (m : Ceilings) (w : ℕ) (a : ℕ × ℕ) → headWord m w ≡ given a
-    → (kind w ≡ 1) × (number w ≤ m .episodes) × (_≡_ {A = ℕ × ℕ} (kind w, number w) a)
+pub head-passed : (m : Ceilings) (w : ℕ) (a : ℕ × ℕ × ℕ) → headWord m w ≡ given a
+    → (kind w ≡ 1) × (number w ≤ m .episodes) × (_≡_ {A = ℕ × ℕ × ℕ} (kind w, number w, 0) a)
 head-passed m w a e =
-    let two = asked 2 0 (eqb (kind w) 1) (question 3 0 (leb (number w) (m .episodes)) (given (kind w, number w))) a e in
-    let three = asked 3 0 (leb (number w) (m .episodes)) (given (kind w, number w)) a (two .1) in
+    let two = asked 2 0 (eqb (kind w) 1) (question 3 0 (leb (number w) (m .episodes)) (given (kind w, number w, 0))) a e in
+    let three = asked 3 0 (leb (number w) (m .episodes)) (given (kind w, number w, 0)) a (two .1) in
     (eqb-true (kind w) 1 (two .0), leb-true (number w) (m .episodes) (three .0), cc (three .1))
 
 -- and of a last word that is taken
-pub end-taken : (p w t : ℕ) (a : ℕ × ℕ) → endWord p w t ≡ given a → (kind w ≡ 15) × (number w ≡ t)
+pub end-taken : (p w t : ℕ) (a : ℕ × ℕ × ℕ) → endWord p w t ≡ given a → (kind w ≡ 15) × (number w ≡ t)
 unfolding endWord
 end-taken p w t a e =
-    let nine = asked 9 p (eqb (kind w) 15) (question 10 p (eqb (number w) t) (given (kind w, number w))) a e in
-    let ten = asked 10 p (eqb (number w) t) (given (kind w, number w)) a (nine .1) in
+    let nine = asked 9 p (eqb (kind w) 15) (question 10 p (eqb (number w) t) (given (kind w, number w, 0))) a e in
+    let ten = asked 10 p (eqb (number w) t) (given (kind w, number w, 0)) a (nine .1) in
     (eqb-true (kind w) 15 (nine .0), eqb-true (number w) t (ten .0))
 
 -- and the other way round
 pub from-given : (m : Ceilings) (n p w : ℕ) (rest : List ℕ) (from : Bool) (t : ℕ) → FromTaken n w rest
-    → groupWord m n p w rest from t ≡ given (2, number w)
+    → groupWord m n p w rest from t ≡ given (2, number w, 0)
 from-given m n p w rest from t k = group-from m n p w rest from t (k .is-from) ∙ rw (k .to-follows, lt-ltb (number w) n (k .below))
 
 pub to-given : (m : Ceilings) (n p w : ℕ) (rest : List ℕ) (from : Bool) (t : ℕ) → ToTaken m n w from t
-    → groupWord m n p w rest from t ≡ given (3, number w)
+    → groupWord m n p w rest from t ≡ given (3, toEpisode w, toPause w)
 to-given m n p w rest from t k =
-    group-to m n p w rest from t (k .is-to) ∙ rw (k .from-before, lt-ltb (number w) n (k .below), lt-ltb t (m .words) (k .room))
+    group-to m n p w rest from t (k .is-to) ∙ rw (k .from-before, lt-ltb (toEpisode w) n (k .below), lt-ltb t (m .words) (k .room))
 
-pub end-given : (p w t : ℕ) → kind w ≡ 15 → number w ≡ t → endWord p w t ≡ given (kind w, number w)
+pub end-given : (p w t : ℕ) → kind w ≡ 15 → number w ≡ t → endWord p w t ≡ given (kind w, number w, 0)
 end-given p w t k x = sym (end-passed p w t (kind w) (number w) refl refl k x)

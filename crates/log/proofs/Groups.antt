@@ -58,18 +58,18 @@ module _ (m : Ceilings) (l : List ℕ) (n p t : ℕ) where
 
   module _ (r : LogWord) (k x : ℕ) where
     pub from-taken : AtGroup m l n p t → p + 1 < length l → wordAnswer r ≡ groupWord m n p (getD l p 0) (drop (p + 1) l) (ltb 1 p) t
-        → r ≡ Taken k x → InGroup m l n (p + 1) t
-    from-taken g h e is =
+        → (q : ℕ) → r ≡ Taken k x q → InGroup m l n (p + 1) t
+    from-taken g h e q is =
         let passed = sym e ∙ ap wordAnswer is in
         ⊎-elim
         (λ taken. record {
           behind-from = omega arith;
           within = h;
           few = omega arith;
-          same = sym (step-from m l n p (ltb 1 p) t (k, x) h passed (taken .is-from)) ∙ g .same;
+          same = sym (step-from m l n p (ltb 1 p) t (k, x, q) h passed (taken .is-from)) ∙ g .same;
         })
         (λ taken. absurd (no-to g h taken))
-        (group-taken m n p (getD l p 0) (drop (p + 1) l) (ltb 1 p) t (k, x) passed)
+        (group-taken m n p (getD l p 0) (drop (p + 1) l) (ltb 1 p) t (k, x, q) passed)
 
     pub from-given-up : AtGroup m l n p t → p + 1 < length l → wordAnswer r ≡ groupWord m n p (getD l p 0) (drop (p + 1) l) (ltb 1 p) t
         → r ≡ GivenUp k x → Stopped m l n p t
@@ -78,14 +78,14 @@ module _ (m : Ceilings) (l : List ℕ) (n p t : ℕ) where
 
     module _ (b : Bool) (g : InGroup m l n p t) (h : b ≡ toBeforeLast l p) (yes : b ≡ true)
         (e : wordAnswer r ≡ groupWord m n p (getD l p 0) (drop (p + 1) l) true t) where
-      pub to-taken : r ≡ Taken k x → InGroup m l n (p + 1) (t + 1)
-      to-taken is =
+      pub to-taken : (q : ℕ) → r ≡ Taken k x q → InGroup m l n (p + 1) (t + 1)
+      to-taken q is =
           let there = to-there l p (sym h ∙ yes) in
           record {
             behind-from = omega arith;
             within = there .0;
             few = omega arith;
-            same = sym (step-to m l n p true t (k, x) (there .0) (sym e ∙ ap wordAnswer is) (there .1)) ∙ g .same;
+            same = sym (step-to m l n p true t (k, x, q) (there .0) (sym e ∙ ap wordAnswer is) (there .1)) ∙ g .same;
           }
 
       pub to-given-up : r ≡ GivenUp k x → Stopped m l n p t

@@ -1,19 +1,20 @@
 -- The laws of a log `l` that passes questions 1 to 10 with `n` episodes and `t` to words: what other crates cite.
-use mathlib.Core.Path.{_≡_, _∙_, sym}
+use mathlib.Core.Path.{_≡_, _∙_, sym, ap}
 use mathlib.Core.Logic.{_≢_, ⊎-elim}
-use mathlib.Core.List.{List, [], _∷_, _++_}
-use Prim.Native.Nat.{ℕ, zero, suc, _+_, _-_, _<_, _≤_}
+use mathlib.Core.List.{List, [], _∷_, _++_, map, map-append, List·Memᴰ as Mem}
+use Prim.Native.Nat.{ℕ, zero, suc, _+_, _-_, _<_, _≤_, _^_}
 use native.Mathlib.Decide.{ℕ-discrete}
 use native.Mathlib.Omega.{arith}
-use lib.ListN.{length, getD, drop}
+use lib.ListN.{length, getD, drop, length-map}
 use Rattle.paths.specs.Graph.{EndsBelow}
-use Rattle.log.specs.Words.{kind, number, Small}
+use Rattle.log.specs.Words.{kind, number, toEpisode, toPause, Small}
+use Rattle.log.specs.Content.{Heard, joins}
 use Rattle.log.specs.Answer.{given}
-use Rattle.log.specs.Log.{questions, graphOf}
+use Rattle.log.specs.Log.{questions, contentOf, graphOf}
 use Rattle.log.specs.declared.Ceilings.{Ceilings}
-use Rattle.log.proofs.Words.{number-lt}
+use Rattle.log.proofs.Words.{number-lt, figure-from}
 use Rattle.log.proofs.Links as links
-use Rattle.log.proofs.Links.{links-count, linksBefore, nearestFrom}
+use Rattle.log.proofs.Links.{heard-count, heard-fits, heardBefore, linksBefore, nearestFrom}
 use Rattle.log.proofs.WellFormed as forms
 use Rattle.log.proofs.WellFormed.{WellFormed}
 
@@ -42,7 +43,7 @@ module _ (m : Ceilings) (l : List ℕ) (n t : ℕ) (e : questions m l ≡ given 
   graph-episodes = forms.well-formed m l n t e .head-number
 
   pub graph-count : length (graphOf l .links) ≡ t
-  graph-count = links-count 0 (drop 1 l) ∙ forms.well-formed m l n t e .count
+  graph-count = length-map (contentOf l .heard) joins ∙ heard-count 0 (drop 1 l) ∙ forms.well-formed m l n t e .count
 
   pub links-below : EndsBelow (graphOf l)
   links-below = forms.links-below m l n t e
@@ -58,22 +59,32 @@ module _ (m : Ceilings) (l : List ℕ) (n t : ℕ) (e : questions m l ≡ given 
       later (yes first) = absurd (other (rw first (form .starts (omega arith))))
       later (no ne) = omega arith
 
--- Passing over the words behind the head, in order. At place 1 no link has been seen; a from word changes the nearest from word, and a
--- to word adds its link; at the last word the links that have been seen are the graph's.
-pub before-head : (l : List ℕ) → 0 < length l → linksBefore l 1 ≡ []
+-- the episode and the pause of a link that was heard fit a to word
+pub content-fits : (l : List ℕ) (h : Heard) → Mem h (contentOf l .heard) → (h .to < 2 ^ 16) × (h .pause < 2 ^ 12)
+content-fits l = heard-fits 0 (drop 1 l)
+
+-- Passing over the words behind the head, in order. At place 1 no link has been heard; a from word changes the nearest from word, and a
+-- to word adds its link; at the last word the links that have been heard are the log's.
+pub before-head : (l : List ℕ) → 0 < length l → heardBefore l 1 ≡ []
 before-head = links.before-head
 
 module _ (l : List ℕ) (p : ℕ) (behind : 0 < p) (within : p < length l) where
-  pub pass-from : kind (getD l p 0) ≡ 2 → (linksBefore l (p + 1) ≡ linksBefore l p) × (nearestFrom l (p + 1) ≡ number (getD l p 0))
+  pub pass-from : kind (getD l p 0) ≡ 2 → (heardBefore l (p + 1) ≡ heardBefore l p) × (nearestFrom l (p + 1) ≡ number (getD l p 0))
   pass-from = links.pass-from l p behind within
 
   pub pass-to : kind (getD l p 0) ≡ 3
-      → (linksBefore l (p + 1) ≡ linksBefore l p ++ (nearestFrom l p, number (getD l p 0)) ∷ []) × (nearestFrom l (p + 1) ≡ nearestFrom l p)
+      → (heardBefore l (p + 1)
+      ≡ heardBefore l p ++ record { from = nearestFrom l p; to = toEpisode (getD l p 0); pause = toPause (getD l p 0) } ∷ [])
+      × (nearestFrom l (p + 1) ≡ nearestFrom l p)
   pass-to = links.pass-to l p behind within
 
+  -- the same of the links alone
+  pub links-to : kind (getD l p 0) ≡ 3 → linksBefore l (p + 1) ≡ linksBefore l p ++ (nearestFrom l p, toEpisode (getD l p 0)) ∷ []
+  links-to k = ap (map joins) (pass-to k .0) ∙ map-append joins (heardBefore l p) _
+
 module _ (m : Ceilings) (l : List ℕ) (n t : ℕ) (e : questions m l ≡ given (n, t)) where
-  pub links-passed : linksBefore l (length l - 1) ≡ graphOf l .links
-  links-passed =
+  pub heard-passed : heardBefore l (length l - 1) ≡ contentOf l .heard
+  heard-passed =
       let f = forms.well-formed m l n t e in
       let all : length l - 1 + 1 ≡ length l = omega arith in
       sym (links.pass-end l (length l - 1) (omega arith) (omega arith) (f .end-kind)) ∙ rw all (links.before-all l)
@@ -81,12 +92,13 @@ module _ (m : Ceilings) (l : List ℕ) (n t : ℕ) (e : questions m l ≡ given 
   nearest-at : (i : ℕ) → i + 2 < length l → nearestFrom l (i + 2) < n
   nearest-at zero h =
       let f = forms.well-formed m l n t e in
-      rw (links.pass-from l 1 (omega arith) (omega arith) (f .starts (omega arith)) .1) (f .below 1 (omega arith) (omega arith))
+      let k = f .starts (omega arith) in
+      rw (links.pass-from l 1 (omega arith) (omega arith) k .1) (rw (figure-from _ k) at (f .below 1 (omega arith) (omega arith)))
   nearest-at (suc i) h =
       let f = forms.well-formed m l n t e in
       let next : suc i + 2 ≡ i + 2 + 1 = omega arith in
       ⊎-elim
-      (λ k. rw (next, links.pass-from l (i + 2) (omega arith) (omega arith) k .1) (f .below (i + 2) (omega arith) (omega arith)))
+      (λ k. rw (next, links.pass-from l (i + 2) (omega arith) (omega arith) k .1) (rw (figure-from _ k) at (f .below (i + 2) (omega arith) (omega arith))))
       (λ k. rw (next, links.pass-to l (i + 2) (omega arith) (omega arith) k .1) (nearest-at i (omega arith)))
       (f .between (i + 2) (omega arith) (omega arith))
 

@@ -5,7 +5,9 @@ pub mod Places
 pub mod Groups
 pub mod Whole
 pub mod Links
+pub mod Pauses
 pub mod Rest
 pub mod WellFormed
 pub mod Laws
+pub mod Older
 pub mod Worked

@@ -37,10 +37,10 @@ module _ (m : Ceilings) (l : List ℕ) (n p : ℕ) (from : Bool) (t : ℕ) where
   stop-refused k q h e = onwards-between h ∙ rw (word-between h, e)
 
   -- behind a from word, and behind a to word, that is taken
-  pub step-from : (a : ℕ × ℕ) → p + 1 < length l → groupWord m n p (getD l p 0) (drop (p + 1) l) from t ≡ given a → kind (getD l p 0) ≡ 2
+  pub step-from : (a : ℕ × ℕ × ℕ) → p + 1 < length l → groupWord m n p (getD l p 0) (drop (p + 1) l) from t ≡ given a → kind (getD l p 0) ≡ 2
       → onwardsAt m l n p from t ≡ onwardsAt m l n (p + 1) true t
   step-from a h e k = onwards-between h ∙ rw (word-between h, e, k, or-true)
 
-  pub step-to : (a : ℕ × ℕ) → p + 1 < length l → groupWord m n p (getD l p 0) (drop (p + 1) l) from t ≡ given a → kind (getD l p 0) ≡ 3
+  pub step-to : (a : ℕ × ℕ × ℕ) → p + 1 < length l → groupWord m n p (getD l p 0) (drop (p + 1) l) from t ≡ given a → kind (getD l p 0) ≡ 3
       → onwardsAt m l n p from t ≡ onwardsAt m l n (p + 1) from (t + 1)
   step-to a h e k = onwards-between h ∙ rw (word-between h, e, k, or-false)

@@ -8,16 +8,17 @@ use Prim.Native.Nat.{ℕ, zero, suc, _+_, _-_, _<_, _≤_}
 use native.Mathlib.Omega.{arith}
 use native.Mathlib.Nat.{add-zero, suc-add}
 use lib.ListN.{length, getD, drop}
-use Rattle.log.specs.Words.{kind, number}
+use Rattle.log.specs.Words.{kind, number, toEpisode}
+use Rattle.log.specs.Content.{Heard}
 use Rattle.log.specs.Answer.{Answer, given, refused, andThen}
-use Rattle.log.specs.Log.{isFrom, isTo, groupWord, endWord, counted, onwards, linksFrom}
+use Rattle.log.specs.Log.{isFrom, isTo, groupWord, endWord, counted, onwards, heardFrom}
 use Rattle.log.specs.declared.Ceilings.{Ceilings}
 use Rattle.log.proofs.Asked.{group-taken, end-taken, from-given, to-given, end-given, FromTaken, ToTaken}
-use Rattle.log.proofs.Links.{links-from, links-to, links-end, links-nil, toWords, count-from, count-to, count-end}
+use Rattle.log.proofs.Links.{heard-from, heard-to, heard-end, heard-nil, toWords, count-from, count-to, count-end}
 
 -- a word between head and end: a from word with a to word behind it that is not the last, or a to word
 abbrev pub Grouped : ℕ → ℕ → List ℕ → Type 0
-Grouped n w rest = FromTaken n w rest ⊎ ((kind w ≡ 3) × (number w < n))
+Grouped n w rest = FromTaken n w rest ⊎ ((kind w ≡ 3) × (toEpisode w < n))
 
 -- the words `s` of a log from some place behind the head on: before them stood a from word if `from` says so, and `t` to words; the
 -- whole log has `t'`
@@ -133,18 +134,18 @@ rest-passes m n p w (x ∷ rest) from t t' r room =
     (r .grouped 0 (omega arith))
 
 pub ends-below : (n : ℕ) (s : List ℕ) (from : Bool) (t t' a : ℕ) → RestFormed n s from t t' → (from ≡ true → a < n)
-    → (b c : ℕ) → Mem (b, c) (linksFrom a s) → (b < n) × (c < n)
-ends-below n [] from t t' a r h b c i = absurd (not-nil (rw (links-nil a) at i))
-ends-below n (w ∷ []) from t t' a r h b c i = absurd (not-nil (rw (links-end a w [] (r .end-kind), links-nil) at i))
-ends-below n (w ∷ x ∷ rest) from t t' a r h b c i =
+    → (h : Heard) → Mem h (heardFrom a s) → (h .from < n) × (h .to < n)
+ends-below n [] from t t' a r k h i = absurd (not-nil (rw (heard-nil a) at i))
+ends-below n (w ∷ []) from t t' a r k h i = absurd (not-nil (rw (heard-end a w [] (r .end-kind), heard-nil) at i))
+ends-below n (w ∷ x ∷ rest) from t t' a r k h i =
     ⊎-elim
-    (λ k.
-    ends-below n (x ∷ rest) true t t' (number w) (behind-from n w x rest from t t' (k .is-from) r) (λ f. k .below) b c
-    (rw (links-from a w (x ∷ rest) (k .is-from)) at i))
-    (λ k.
-    let start : a < n = h (from-before n w x rest from t t' r (k .0)) in
+    (λ f.
+    ends-below n (x ∷ rest) true t t' (number w) (behind-from n w x rest from t t' (f .is-from) r) (λ e. f .below) h
+    (rw (heard-from a w (x ∷ rest) (f .is-from)) at i))
+    (λ f.
+    let start : a < n = k (from-before n w x rest from t t' r (f .0)) in
     ⊎-elim
-    (λ e. (omega (arith, ap (λ (v : ℕ × ℕ). v .0) e), omega (arith, ap (λ (v : ℕ × ℕ). v .1) e, k .1)))
-    (ends-below n (x ∷ rest) true (t + 1) t' a (behind-to n w x rest from t t' (k .0) r) (λ f. start) b c)
-    (mem-cases (rw (links-to a w (x ∷ rest) (k .0)) at i)))
+    (λ e. (omega (arith, ap (λ (v : Heard). v .from) e), omega (arith, ap (λ (v : Heard). v .to) e, f .1)))
+    (ends-below n (x ∷ rest) true (t + 1) t' a (behind-to n w x rest from t t' (f .0) r) (λ e. start) h)
+    (mem-cases (rw (heard-to a w (x ∷ rest) (f .0)) at i)))
     (r .grouped 0 (omega arith))

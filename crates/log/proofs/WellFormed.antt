@@ -1,8 +1,8 @@
 -- A log passes questions 1 to 10 exactly when it is well formed.
-use mathlib.Core.Path.{_≡_, refl, _∙_, sym}
+use mathlib.Core.Path.{_≡_, refl, _∙_, sym, ap}
 use mathlib.Core.Logic.{_⊎_, inl, inr, ⊎-elim}
 use mathlib.Core.Bool.{false, true≢false}
-use mathlib.Core.List.{List, [], _∷_}
+use mathlib.Core.List.{List, [], _∷_, Memᴰ·of-map}
 use Prim.Native.Nat.{ℕ, zero, suc, _+_, _-_, _<_, _≤_}
 use native.Mathlib.Omega.{arith}
 use native.Mathlib.Nat.{suc-add}
@@ -10,9 +10,11 @@ use lib.ListN.{length, getD, drop}
 use borrow.Author.Tests.{le-leb}
 use Rattle.paths.specs.Graph.{EndsBelow}
 use Rattle.log.specs.Words.{kind, number}
+use Rattle.log.specs.Content.{joins}
 use Rattle.log.specs.Answer.{given}
-use Rattle.log.specs.Log.{headWord, onwards, questions, graphOf}
+use Rattle.log.specs.Log.{figure, headWord, onwards, questions, heardFrom, graphOf}
 use Rattle.log.specs.declared.Ceilings.{Ceilings}
+use Rattle.log.proofs.Words.{figure-from, figure-to}
 use Rattle.log.proofs.Asked.{behind, to-there, there-to, head-passed}
 use Rattle.log.proofs.Links.{toWords}
 use Rattle.log.proofs.Rest.{both-given, last-behind, Grouped, RestFormed, rest-formed, rest-passes, ends-below}
@@ -24,7 +26,7 @@ pub record WellFormed (m : Ceilings) (l : List ℕ) (n t : ℕ) : Type 0 where
   pub head-number : number (getD l 0 0) ≡ n
   pub few-episodes : n ≤ m .episodes
   pub between : (p : ℕ) → 0 < p → p + 1 < length l → (kind (getD l p 0) ≡ 2) ⊎ (kind (getD l p 0) ≡ 3)
-  pub below : (p : ℕ) → 0 < p → p + 1 < length l → number (getD l p 0) < n
+  pub below : (p : ℕ) → 0 < p → p + 1 < length l → figure (getD l p 0) < n
   pub starts : 2 < length l → kind (getD l 1 0) ≡ 2
   pub follows : (p : ℕ) → 0 < p → p + 1 < length l → kind (getD l p 0) ≡ 2 → (p + 2 < length l) × (kind (getD l (p + 1) 0) ≡ 3)
   pub end-kind : kind (getD l (length l - 1) 0) ≡ 15
@@ -81,9 +83,9 @@ module _ (m : Ceilings) (h w : ℕ) (rest : List ℕ) (n t : ℕ) where
       between zero o g = absurd (omega arith)
       between (suc i) o g = ⊎-elim (λ k. inl (k .is-from)) (λ k. inr (k .0)) (r .words .grouped i (omega arith))
 
-      below : (p : ℕ) → 0 < p → p + 1 < length (h ∷ w ∷ rest) → number (getD (h ∷ w ∷ rest) p 0) < n
+      below : (p : ℕ) → 0 < p → p + 1 < length (h ∷ w ∷ rest) → figure (getD (h ∷ w ∷ rest) p 0) < n
       below zero o g = absurd (omega arith)
-      below (suc i) o g = ⊎-elim (λ k. k .below) (λ k. k .1) (r .words .grouped i (omega arith))
+      below (suc i) o g = ⊎-elim (λ k. rw (figure-from _ (k .is-from)) (k .below)) (λ k. rw (figure-to _ (k .0)) (k .1)) (r .words .grouped i (omega arith))
 
       follows : (p : ℕ) → 0 < p → p + 1 < length (h ∷ w ∷ rest) → kind (getD (h ∷ w ∷ rest) p 0) ≡ 2
           → (p + 2 < length (h ∷ w ∷ rest)) × (kind (getD (h ∷ w ∷ rest) (p + 1) 0) ≡ 3)
@@ -121,9 +123,9 @@ module _ (m : Ceilings) (h w : ℕ) (rest : List ℕ) (n t : ℕ) where
           inl (record {
             is-from = k;
             to-follows = behind (w ∷ rest) (i + 1) ∙ there-to (w ∷ rest) (i + 1) (omega (arith, next .0)) (rw suc-add at (next .1));
-            below = f .below (suc i) (omega arith) (omega arith);
+            below = rw (figure-from _ k) at (f .below (suc i) (omega arith) (omega arith));
           }))
-          (λ k. inr (k, f .below (suc i) (omega arith) (omega arith)))
+          (λ k. inr (k, rw (figure-to _ k) at (f .below (suc i) (omega arith) (omega arith))))
           (f .between (suc i) (omega arith) (omega arith))
 
 pub well-formed : (m : Ceilings) (l : List ℕ) (n t : ℕ) → questions m l ≡ given (n, t) → WellFormed m l n t
@@ -143,4 +145,8 @@ links-below m [] n t e = let none : _≡_ {A = ℕ} 0 1 = cc in absurd (omega ar
 links-below m (h ∷ []) n t e = let none : _≡_ {A = ℕ} 0 1 = cc in absurd (omega arith)
 links-below m (h ∷ w ∷ rest) n t e =
     let r = parts m h w rest n t e in
-    rw (r .head-number) (λ a b i. ends-below n (w ∷ rest) false 0 t 0 (r .words) (λ f. absurd (true≢false (sym f))) a b i)
+    rw (r .head-number)
+    (λ a b i.
+    let (h, j, same) = Memᴰ·of-map joins (heardFrom 0 (w ∷ rest)) i in
+    let (from, to) = ends-below n (w ∷ rest) false 0 t 0 (r .words) (λ f. absurd (true≢false (sym f))) h j in
+    (omega (arith, ap (λ (v : ℕ × ℕ). v .0) same), omega (arith, ap (λ (v : ℕ × ℕ). v .1) same)))

@@ -29,18 +29,15 @@ head-first m (w ∷ []) h = absurd (omega arith)
 head-first m (w ∷ x ∷ rest) h = refl
 
 module _ (m : Ceilings) (l : List ℕ) (long : 2 ≤ length l) (head : LogWord) (e : wordAnswer head ≡ headWord m (getD l 0 0)) where
-  pub head-given-up : (k q : ℕ) → head ≡ GivenUp k q → wordAnswer head ≡ questions m l
-  head-given-up k q is = ap wordAnswer is ∙ sym (head-first m l long ∙ rw (sym e ∙ ap wordAnswer is))
+  pub head-given-up : (k q : ℕ) → head ≡ GivenUp k q → andThen (wordAnswer head) (given (0, 0)) ≡ questions m l
+  head-given-up k q is = rw (ap wordAnswer is) (sym (head-first m l long ∙ rw (sym e ∙ ap wordAnswer is)))
 
-  pub behind-head : (k n : ℕ) → head ≡ Taken k n → questions m l ≡ onwardsAt m l n 1 false 0
-  behind-head k n is =
+  pub behind-head : (k n q : ℕ) → head ≡ Taken k n q → questions m l ≡ onwardsAt m l n 1 false 0
+  behind-head k n q is =
       let passed = sym e ∙ ap wordAnswer is in
-      head-first m l long ∙ rw (passed, ap (λ (v : ℕ × ℕ). v .1) (head-passed m (getD l 0 0) (k, n) passed .2))
+      head-first m l long ∙ rw (passed, ap (λ (v : ℕ × ℕ × ℕ). v .1) (head-passed m (getD l 0 0) (k, n, q) passed .2))
 
-  module _ (k n : ℕ) (is : head ≡ Taken k n) (place count : ℕ) (stop : Stopped m l n place count) (word : LogWord)
-      (f : wordAnswer word ≡ logWordAt m l n place (ltb 1 place) count) where
-    pub word-given-up : (j q : ℕ) → word ≡ GivenUp j q → wordAnswer word ≡ questions m l
-    word-given-up j q at = ap wordAnswer at ∙ sym (behind-head k n is ∙ stop .answer ∙ rw (sym f ∙ ap wordAnswer at))
-
-    pub word-taken : (j x : ℕ) → word ≡ Taken j x → given (n, count) ≡ questions m l
-    word-taken j x at = sym (behind-head k n is ∙ stop .answer ∙ rw (sym f ∙ ap wordAnswer at))
+  -- the answer of the word where the loops stop is that of the log
+  pub word-stopped : (k n q : ℕ) → head ≡ Taken k n q → (place count : ℕ) → Stopped m l n place count → (word : LogWord)
+      → wordAnswer word ≡ logWordAt m l n place (ltb 1 place) count → andThen (wordAnswer word) (given (n, count)) ≡ questions m l
+  word-stopped k n q is place count stop word f = sym (behind-head k n q is ∙ stop .answer ∙ rw (sym f))

@@ -21,9 +21,9 @@ abbrev pub andThen : {A B : Type 0} → Answer A → Answer B → Answer B
 andThen (given a) next = next
 andThen (refused k p) next = refused k p
 
--- a log word: its kind and number, or the refusal that it earns
-abbrev pub wordAnswer : LogWord → Answer (ℕ × ℕ)
-wordAnswer (Taken k x) = given (k, x)
+-- a log word: its kind, its episode or number, and its pause; or the refusal that it earns
+abbrev pub wordAnswer : LogWord → Answer (ℕ × ℕ × ℕ)
+wordAnswer (Taken k x p) = given (k, x, p)
 wordAnswer (GivenUp k p) = refused k p
 
 -- a log: n and the count of its to words, or the refusal

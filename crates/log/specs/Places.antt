@@ -10,7 +10,7 @@ use Rattle.log.specs.Log.{logWord, onwards}
 use Rattle.log.specs.declared.Ceilings.{Ceilings}
 
 -- `logWord` and `onwards` at a place of the log `l`
-abbrev pub logWordAt : Ceilings → List ℕ → ℕ → ℕ → Bool → ℕ → Answer (ℕ × ℕ)
+abbrev pub logWordAt : Ceilings → List ℕ → ℕ → ℕ → Bool → ℕ → Answer (ℕ × ℕ × ℕ)
 logWordAt m l n p from t = logWord m n p (getD l p 0) (drop (p + 1) l) from t
 
 abbrev pub onwardsAt : Ceilings → List ℕ → ℕ → ℕ → Bool → ℕ → Answer (ℕ × ℕ)

@@ -3,8 +3,8 @@ ghost use mathlib.Core.Path.{_≡_};
 ghost use Prim.Native.Nat.{_+_, _<_, _≤_};
 ghost use lib.Dec.{ltb};
 ghost use lib.ListN.{length, getD, drop};
-ghost use Rattle.log.specs.Words.{kind, number};
-ghost use Rattle.log.specs.Answer.{given, question, wordAnswer, readAnswer};
+ghost use Rattle.log.specs.Words.{kind, number, toEpisode, toPause};
+ghost use Rattle.log.specs.Answer.{given, question, andThen, wordAnswer, readAnswer};
 ghost use Rattle.log.specs.Log.{service, toBeforeLast, headWord, groupWord, endWord, questions};
 ghost use Rattle.log.specs.Places.{logWordAt, Stopped};
 
@@ -14,9 +14,10 @@ pub struct Ceilings {
     pub words: usize,
 }
 
-// A log word: its kind and number, or the number and place of the refusal that it earns.
+// A log word: its kind, its number, which of a to word is its episode, and its pause, which only a to word has; or the number and place of
+// the refusal that it earns.
 pub enum LogWord {
-    Taken(u32, usize),
+    Taken(u32, usize, u32),
     GivenUp(u32, usize),
 }
 
@@ -38,6 +39,23 @@ pub fn number_of(w: u32) -> usize
     (w % 0x1000_0000) as usize
 }
 
+// A to word: its later episode and its pause in minutes.
+pub struct ToWord {
+    pub episode: usize,
+    pub pause: u32,
+}
+
+// Takes a to word apart.
+pub fn to_word_of(w: u32) -> ToWord
+    ensures { λ r. ⌜ (r .episode ≡ toEpisode w) × (r .pause ≡ toPause w) ⌝ }
+{
+    let number = w % 0x1000_0000;
+    ToWord {
+        episode: (number % 0x1_0000) as usize,
+        pause: number / 0x1_0000,
+    }
+}
+
 // Questions 2 and 3, of the head.
 fn head_word(most: Ceilings, w: u32) -> LogWord
     ensures { λ r. ⌜ wordAnswer r ≡ headWord most w ⌝ }
@@ -51,7 +69,7 @@ fn head_word(most: Ceilings, w: u32) -> LogWord
     if ceiling < number {
         return LogWord::GivenUp(3, 0);
     }
-    LogWord::Taken(kind, number)
+    LogWord::Taken(kind, number, 0)
 }
 
 // Whether the word at `at` is not the last, and is a to word.
@@ -66,7 +84,7 @@ fn to_before_last(log: &[u32], at: usize) -> bool
 // Questions 6 and 7, of a from word at `at`.
 fn from_word(log: &[u32], n: usize, at: usize, earlier: usize) -> LogWord
     requires { ⌜ at + 1 < length (now log) ⌝ }
-    ensures { λ r. ⌜ wordAnswer r ≡ question 6 at (toBeforeLast (now (log .entry)) (at + 1)) (question 7 at (ltb earlier n) (given (2, earlier))) ⌝ }
+    ensures { λ r. ⌜ wordAnswer r ≡ question 6 at (toBeforeLast (now (log .entry)) (at + 1)) (question 7 at (ltb earlier n) (given (2, earlier, 0))) ⌝ }
 {
     let follows = to_before_last(log, at + 1);
     if !follows {
@@ -75,15 +93,18 @@ fn from_word(log: &[u32], n: usize, at: usize, earlier: usize) -> LogWord
     if n <= earlier {
         LogWord::GivenUp(7, at)
     } else {
-        LogWord::Taken(2, earlier)
+        LogWord::Taken(2, earlier, 0)
     }
 }
 
 // Questions 5, 7 and 8, of a to word at `at`.
-fn to_word(most: Ceilings, n: usize, at: usize, later: usize, from: bool, count: usize) -> LogWord
-    ensures { λ r. ⌜ wordAnswer r ≡ question 5 at from (question 7 at (ltb later n) (question 8 at (ltb count (most .words)) (given (3, later)))) ⌝ }
+fn to_word(most: Ceilings, n: usize, at: usize, w: u32, from: bool, count: usize) -> LogWord
+    ensures { λ r. ⌜ wordAnswer r ≡ question 5 at from (question 7 at (ltb (toEpisode w) n)
+        (question 8 at (ltb count (most .words)) (given (3, toEpisode w, toPause w)))) ⌝ }
 {
     let ceiling = most.words;
+    let to = to_word_of(w);
+    let later = to.episode;
     if !from {
         return LogWord::GivenUp(5, at);
     }
@@ -93,7 +114,7 @@ fn to_word(most: Ceilings, n: usize, at: usize, later: usize, from: bool, count:
     if ceiling <= count {
         return LogWord::GivenUp(8, at);
     }
-    LogWord::Taken(3, later)
+    LogWord::Taken(3, later, to.pause)
 }
 
 // Questions 4 to 8, of the word at `at`, which is neither the head nor the last.
@@ -103,12 +124,11 @@ fn group_word(most: Ceilings, log: &[u32], n: usize, at: usize, from: bool, coun
 {
     let w = log[at];
     let kind = kind_of(w);
-    let number = number_of(w);
     if kind == 2 {
-        return from_word(log, n, at, number);
+        return from_word(log, n, at, number_of(w));
     }
     if kind == 3 {
-        return to_word(most, n, at, number, from, count);
+        return to_word(most, n, at, w, from, count);
     }
     LogWord::GivenUp(4, at)
 }
@@ -125,7 +145,7 @@ fn end_word(w: u32, at: usize, count: usize) -> LogWord
     if number != count {
         return LogWord::GivenUp(10, at);
     }
-    LogWord::Taken(kind, number)
+    LogWord::Taken(kind, number, 0)
 }
 
 // Questions 4 to 10, of the word at `at` behind the head.
@@ -159,13 +179,13 @@ fn first_stop(most: Ceilings, log: &[u32], n: usize) -> Stop
             break 'log at;
         }
         // A group starts with its from word. A to word is met here only as word 1, before any from word.
-        let LogWord::Taken(_, _) = group_word(most, log, n, at, 1 < at, count) else {
+        let LogWord::Taken(_, _, _) = group_word(most, log, n, at, 1 < at, count) else {
             break 'log at;
         };
         at += 1;
         // Its to words.
         while to_before_last(log, at) {
-            let LogWord::Taken(_, _) = group_word(most, log, n, at, true, count) else {
+            let LogWord::Taken(_, _, _) = group_word(most, log, n, at, true, count) else {
                 break 'log at;
             };
             at += 1;
@@ -175,12 +195,12 @@ fn first_stop(most: Ceilings, log: &[u32], n: usize) -> Stop
     Stop { place, count }
 }
 
-// A word's answer as that of the log.
-fn answer_of(word: LogWord) -> Reading
-    ensures { λ r. ⌜ readAnswer r ≡ wordAnswer word ⌝ }
+// The answer of a log with `n` episodes and `count` to words, unless the word is given up.
+fn answer_of(word: LogWord, n: usize, count: usize) -> Reading
+    ensures { λ r. ⌜ readAnswer r ≡ andThen (wordAnswer word) (given (n, count)) ⌝ }
 {
     match word {
-        LogWord::Taken(kind, number) => Reading::Passed(kind as usize, number),
+        LogWord::Taken(_, _, _) => Reading::Passed(n, count),
         LogWord::GivenUp(number, place) => Reading::Refused(number, place),
     }
 }
@@ -193,17 +213,13 @@ pub fn read_within(most: Ceilings, log: &[u32]) -> Reading
         return Reading::Refused(1, 0);
     }
     let head = head_word(most, log[0]);
-    let LogWord::Taken(_, n) = head else {
-        return answer_of(head);
+    let LogWord::Taken(_, n, _) = head else {
+        return answer_of(head, 0, 0);
     };
     let stop = first_stop(most, log, n);
     let place = stop.place;
     let count = stop.count;
-    let word = log_word(most, log, n, place, 1 < place, count);
-    let LogWord::Taken(_, _) = word else {
-        return answer_of(word);
-    };
-    Reading::Passed(n, count)
+    answer_of(log_word(most, log, n, place, 1 < place, count), n, count)
 }
 
 // The service's ceilings.

@@ -1,5 +1,5 @@
 -- Lists: no element twice, the members that pass a test, and with a decidable membership those that another list does not have.
-use mathlib.Core.Path.{_≡_, refl, sym, ap, subst}
+use mathlib.Core.Path.{_≡_, refl, sym, ap, ap₂, subst}
 use mathlib.Core.Logic.{_≢_, _⊎_, inl, inr, ⊎-elim, ite, Dec·not}
 use mathlib.Core.HLevel.{⊥-prop}
 use mathlib.Core.List.{
@@ -7,6 +7,7 @@ use mathlib.Core.List.{
   [],
   _∷_,
   _++_,
+  map,
   List·Memᴰ as Mem,
   List·Memᴰ·head as here,
   List·Memᴰ·tail as there,
@@ -55,6 +56,11 @@ module _ {A : Type 0} where
   nodup-append (a ∷ l) m p q h =
       nodup-cons (λ n. ⊎-elim (nodup-head p) (h a (here refl)) (append-cases l n))
       (nodup-append l m (nodup-tail p) q (λ x n. h x (there n)))
+
+-- functions that agree on the members
+pub map-same : {A B : Type 0} (f g : A → B) (l : List A) → All (λ x. f x ≡ g x) l → map f l ≡ map g l
+map-same f g [] h = refl
+map-same {A} {B} f g (a ∷ l) h = ap₂ (λ (b : B) (m : List B). b ∷ m) (h a (here refl)) (map-same f g l (λ x i. h x (there i)))
 
 -- a member that has the property, or none has it
 pub find : {A : Type 0} {P : A → Type 0} → ((x : A) → Dec (P x)) → (l : List A) → ((x : A) × Mem x l × P x) ⊎ All (λ x. P x → ⊥) l

@@ -14,14 +14,21 @@ use Rattle.paths.specs.Trimmed.{SameWays, Stays}
 use Rattle.paths.proofs.Theorems as graphs
 use Rattle.log.specs.Words.{kind, number, word}
 use Rattle.log.specs.Answer.{given, refused}
-use Rattle.log.specs.Log.{questions, graphOf}
+use Rattle.log.specs.Content.{HeardOf, LeastPause, SameContent}
+use Rattle.log.specs.Log.{questions, contentOf, graphOf}
+use Rattle.log.specs.Earlier.{Older}
+use Rattle.log.specs.Earlier as earlier
 use Rattle.log.specs.declared.Ceilings.{Ceilings}
 use Rattle.log.proofs.Laws.{links-below}
+use Rattle.log.proofs.Pauses.{same-links}
+use Rattle.log.proofs.Older.{questions-older, graph-older, no-pause}
 use Rattle.writing.specs.Layout.{reportWords, loopWords, reportNeed, apartOf, threadsOf, BeginsWith}
 use Rattle.parsing.specs.Whole.{IsReport, Whole, ThreadNumber, ThreadSteps}
 use Rattle.parsing.proofs.Wholes.{report-read}
 use Rattle.copying.specs.FairCopy.{fairWords, fairNeed}
+use Rattle.copying.specs.Earlier as earlier-copy
 use Rattle.copying.proofs.FairCopies as fair
+use Rattle.copying.proofs.Older.{fair-older, older-same}
 use Rattle.trimming.specs.TrimmedCopy.{trimmedWords}
 use Rattle.trimming.proofs.TrimmedCopies as trimming
 use Rattle.report.specs.Report.{outcomeAnswer, asked, cleared, Paired, Reported, LoopShown, Passes, Left}
@@ -172,7 +179,7 @@ module _ (m : Ceilings) (l o w o′ w′ : List ℕ) (r : CopyOutcome) (left : C
   copy = copies.given-left m l o w o′ w′ r c left e
 
   -- The words are those of the fair copy. Behind them the output is unchanged; the first 16,384 work words are zero and the others unchanged.
-  pub copy-words : (take c o′ ≡ fairWords (graphOf l)) × (o′ ≡ take c o′ ++ drop c o) × (w′ ≡ cleared w)
+  pub copy-words : (take c o′ ≡ fairWords (contentOf l)) × (o′ ≡ take c o′ ++ drop c o) × (w′ ≡ cleared w)
   copy-words = (copy .words, copy .unchanged, copy .work)
 
   -- They are at most 2 + 2t, t being the to words of the log.
@@ -184,8 +191,16 @@ module _ (m : Ceilings) (l o w o′ w′ : List ℕ) (r : CopyOutcome) (left : C
       × SameLinks (graphOf l) (graphOf (take c o′))
   copy-read-back =
       let same = fair.copy-same m l _ _ (copy .read) in
-      let read = calls.read-graph m (fairWords (graphOf l)) _ _ (fair.copy-read m l _ _ (copy .read)) in
-      rw (copy .words) (read ∙ ap (λ (k : ℕ). given (k, length (graphOf (fairWords (graphOf l)) .links))) (sym (same .episodes)), same)
+      let read = calls.read-graph m (fairWords (contentOf l)) _ _ (fair.copy-read m l _ _ (copy .read)) in
+      rw (copy .words) (read ∙ ap (λ (k : ℕ). given (k, length (graphOf (fairWords (contentOf l)) .links))) (sym (same .episodes)), same)
+
+  -- The least pause of each link is the same too.
+  pub copy-least-pauses : SameContent (contentOf l) (contentOf (take c o′))
+  copy-least-pauses = rw (copy .words) (fair.copy-content m l _ _ (copy .read))
+
+  -- A link is written with its least pause and no other.
+  pub copy-pauses : (a b p : ℕ) → HeardOf (contentOf (take c o′)) a b p ↔ LeastPause (contentOf l) a b p
+  copy-pauses a b p = rw (copy .words) (fair.copy-pauses m l _ _ (copy .read) a b p)
 
   -- No link is repeated.
   pub copy-once : List·Nodup (graphOf (take c o′) .links)
@@ -213,11 +228,18 @@ module _ (m : Ceilings) (l o w o′ w′ : List ℕ) (r : CopyOutcome) (left : C
   -- A second call, at any ceilings and with any buffers, that gives a copy too.
   module _ (m₂ : Ceilings) (l₂ o₂ w₂ o₂′ w₂′ : List ℕ) (r₂ : CopyOutcome) (left₂ : CopyLeft m₂ l₂ o₂ w₂ o₂′ w₂′ r₂) (c₂ : ℕ)
       (e₂ : copyAnswer r₂ ≡ given c₂) where
-    -- The two copies are equal exactly when n and the sets of links agree.
-    pub copies-equal : (take c o′ ≡ take c₂ o₂′) ↔ SameLinks (graphOf l) (graphOf l₂)
+    -- The two copies are equal exactly when n, the sets of links and the least pause of each link agree.
+    pub copies-equal : (take c o′ ≡ take c₂ o₂′) ↔ SameContent (contentOf l) (contentOf l₂)
     copies-equal =
         let second = copies.given-left m₂ l₂ o₂ w₂ o₂′ w₂′ r₂ c₂ left₂ e₂ in
         rw (copy .words, second .words) (fair.copies-equal m m₂ l l₂ _ _ _ _ (copy .read) (second .read))
+
+    -- So where they are equal, n and the sets of links agree; and of two older logs they are equal exactly then.
+    pub copies-links : take c o′ ≡ take c₂ o₂′ → SameLinks (graphOf l) (graphOf l₂)
+    copies-links same = same-links (copies-equal .0 same)
+
+    pub older-copies-equal : Older l → Older l₂ → (take c o′ ≡ take c₂ o₂′) ↔ SameLinks (graphOf l) (graphOf l₂)
+    older-copies-equal older older₂ = (copies-links, λ same. copies-equal .1 (older-same l l₂ older older₂ same))
 
     -- The copy of a copy is the copy.
     pub copy-again : l₂ ≡ take c o′ → take c₂ o₂′ ≡ take c o′
@@ -322,6 +344,10 @@ module _ (m : Ceilings) (l o w o′ w′ : List ℕ) (r : TrimOutcome) (left : T
   pub trim-no-loop : (k : List ℕ) → Loop (graphOf (take c o′)) k → ⊥
   trim-no-loop k = calls.loop-cyclic (graphs.ways-acyclic (trim-read-back .1) (trim .acyclic))
 
+  -- Each is written with pause 0.
+  pub trim-pauses : (a b p : ℕ) → HeardOf (contentOf (take c o′)) a b p → p ≡ 0
+  trim-pauses a b p = rw (trim .words) (trimming.trim-pause m l _ _ (trim .read) a b p)
+
   -- So the log and its trimmed copy have the same apart sets, width and furthest apart set, and every cover of the copy is a cover of the log.
   pub trim-apart : (s : List ℕ) → Apart (graphOf l) s ↔ Apart (graphOf (take c o′)) s
   trim-apart = graphs.ways-apart (trim-read-back .1)
@@ -380,3 +406,18 @@ module _ (m : Ceilings) (l o w o′ w′ : List ℕ) (r : TrimOutcome) (left : T
 pub trim-loop-fits : (m : Ceilings) (l : List ℕ) (n t : ℕ) → questions m l ≡ given (n, t)
     → (c : List ℕ) → Loop (graphOf l) c → length (loopWords c) ≤ fairNeed t
 trim-loop-fits = trimming.trim-loop-fits
+
+-- 9. Of every older log, one in which the number of each to word is below 65,536: it has pause 0 everywhere, and the graph, the answer to questions
+-- 1 to 10 and the fair copy that it had before to words had pauses. What it had is said by the definitions as they were then.
+module _ (l : List ℕ) (older : Older l) where
+  pub older-pauses : (a b p : ℕ) → HeardOf (contentOf l) a b p → p ≡ 0
+  older-pauses a b p m = no-pause l older _ m
+
+  pub older-graph : graphOf l ≡ earlier.graphOf l
+  older-graph = graph-older l older
+
+  pub older-questions : (m : Ceilings) → questions m l ≡ earlier.questions m l
+  older-questions m = questions-older m l older
+
+  pub older-fair : fairWords (contentOf l) ≡ earlier-copy.fairWords (earlier.graphOf l)
+  older-fair = fair-older l older

@@ -26,7 +26,7 @@ use Rattle.paths.proofs.Checker.{
 use Rattle.paths.proofs.Worked as worked
 use Rattle.log.specs.Words.{number, word}
 use Rattle.log.specs.Answer.{given, refused}
-use Rattle.log.specs.Log.{linksFrom, questions, graphOf}
+use Rattle.log.specs.Log.{heardFrom, questions, graphOf}
 use Rattle.log.specs.declared.Ceilings.{Ceilings}
 use Rattle.writing.specs.Layout.{threadWords, threadsWords, ended, reportWords, loopWords, reportNeed, apartOf, threadsOf}
 use Rattle.report.specs.Report.{outcomeAnswer, asked, cleared, Reported, Passes, Left}
@@ -113,7 +113,7 @@ cover-right g s f h =
 
 -- what is said of the log `l` is so, if the log passes questions 1 to 10
 unfoldable pub saidTest : List ℕ → Said → Bool
-unfolding coverTest same each member loops loopTest linksFrom apartOf reportWords ended threadsWords threadWords loopWords
+unfolding coverTest same each member loops loopTest heardFrom apartOf reportWords ended threadsWords threadWords loopWords
 saidTest l (report ws) = coverTest (graphOf l) (apartOf ws) (λ ts. same (reportWords (apartOf ws) ts) ws)
 saidTest l (parts k s through) = eqb (length s) k && coverTest (graphOf l) s (each (λ t. each (λ v. member v t) through))
 saidTest l (loop p ws) =

@@ -6,6 +6,7 @@ use mathlib.Core.List.{
   [],
   _∷_,
   _++_,
+  map,
   List·Memᴰ as Mem,
   List·Memᴰ·append-cases as append-cases,
   Memᴰ·append-left as append-left,
@@ -18,13 +19,15 @@ use Prim.Native.Nat.{ℕ, _+_, _-_, _*_, _/_, _≤_, _<_}
 use native.Mathlib.Decide.{ℕ-discrete}
 use native.Mathlib.Omega.{arith}
 use lib.ListN.{length, getD}
-use Rattle.log.specs.Words.{kind, number}
+use Rattle.log.specs.Words.{kind, number, toEpisode}
+use Rattle.log.specs.Content.{joins}
 use Rattle.log.proofs.Links.{linksBefore, nearestFrom}
-use Rattle.log.proofs.Laws.{well-formed, to-word, before-head, pass-from, pass-to, links-passed}
+use Rattle.log.proofs.Words.{figure-from, figure-to}
+use Rattle.log.proofs.Laws.{well-formed, to-word, before-head, pass-from, pass-to, links-to, heard-passed}
 use Rattle.bits.specs.Bits.{bit, BitSet}
 use Rattle.bits.specs.Work.{linksAt, waysAt, Matrix, Outside, nextAt}
 use Rattle.bits.proofs.Rows.{bits-zero}
-use Rattle.log.specs.Log.{PassedLog}
+use Rattle.log.specs.Log.{figure, PassedLog}
 use Rattle.reach.specs.Reach.{Marked, WordTaken, LinksMarked}
 use Rattle.bits.proofs.Frames.{outside-none, outside-then, outside-wider, set-other, set-outside}
 
@@ -71,7 +74,7 @@ pub marking-start : (l w : List ℕ) → PassedLog l → ((i : ℕ) → i < next
 marking-start l w (m, n, t, e, few) zeros =
     let f = well-formed m l n t e in
     let long : 2 ≤ length l = f .long in
-    let none : linksBefore l 1 ≡ [] = before-head l (omega arith) in
+    let none : linksBefore l 1 ≡ [] = ap (map joins) (before-head l (omega arith)) in
     record {
       outside = outside-none linksAt waysAt w;
       behind = omega arith;
@@ -88,19 +91,19 @@ marking-start l w (m, n, t, e, few) zeros =
 
 -- what holds of the word at a place between head and end
 module _ (l w w′ : List ℕ) (from p : ℕ) (passed : PassedLog l) (s : Marking l w w′ from p) (inner : p + 1 < length l) where
-  -- its number is an episode's
-  pub number-below : number (getD l p 0) < 256
-  number-below =
+  -- what question 7 looks at is an episode's number
+  below : figure (getD l p 0) < 256
+  below =
       let (m, n, t, e, few) = passed in
-      let b : number (getD l p 0) < n = well-formed m l n t e .below p (s .behind) inner in
+      let b : figure (getD l p 0) < n = well-formed m l n t e .below p (s .behind) inner in
       omega arith
 
   to-here : (kind (getD l p 0) ≡ 2 → ⊥) → (kind (getD l p 0) ≡ 3) × (1 < p)
   to-here other = let (m, n, t, e, few) = passed in to-word m l n t e p (s .behind) inner other
 
-  -- before a to word a from word has come
-  pub from-below : (kind (getD l p 0) ≡ 2 → ⊥) → from < 256
-  from-below other = s .nearest (to-here other .1) .1
+  -- before a to word a from word has come, and both give episodes
+  pub ends-below : (kind (getD l p 0) ≡ 2 → ⊥) → (from < 256) × (toEpisode (getD l p 0) < 256)
+  ends-below other = (s .nearest (to-here other .1) .1, rw (figure-to _ (to-here other .0)) at below)
 
   pub marking-on : {r : ℕ} {w″ : List ℕ} → WordTaken (getD l p 0) from r w′ w″ → Marking l w w″ r (p + 1)
   marking-on {r} {w″} d = go (ℕ-discrete (kind (getD l p 0)) 2)
@@ -114,17 +117,18 @@ module _ (l w w′ : List ℕ) (from p : ℕ) (passed : PassedLog l) (s : Markin
             behind = omega arith;
             within = inner;
             links = rw (kept, same) (s .links);
-            nearest = λ h. (cc, rw new number-below);
+            nearest = λ h. (cc, rw (new, ← figure-from _ k) below);
           }
       go (no other) =
-          let (more, near) = pass-to l p (s .behind) (s .within) (to-here other .0) in
+          let (heard, near) = pass-to l p (s .behind) (s .within) (to-here other .0) in
+          let more = links-to l p (s .behind) (s .within) (to-here other .0) in
           let (is-nearest, low) = s .nearest (to-here other .1) in
           let (same, q) = d .of-to other in
           record {
             outside = outside-then (s .outside) (q .outside);
             behind = omega arith;
             within = inner;
-            links = rw (more, ← is-nearest) (matrix-more from (number (getD l p 0)) low number-below (s .links) q);
+            links = rw (more, ← is-nearest) (matrix-more from (toEpisode (getD l p 0)) low (ends-below other .1) (s .links) q);
             nearest = λ h. (cc, rw same low);
           }
 
@@ -132,5 +136,5 @@ module _ (l w w′ : List ℕ) (from p : ℕ) (passed : PassedLog l) (s : Markin
 pub marking-end : (l w w′ : List ℕ) (from p : ℕ) → PassedLog l → Marking l w w′ from p → length l ≤ p + 1 → LinksMarked l w w′
 marking-end l w w′ from p (m, n, t, e, few) s h =
     let last : p ≡ length l - 1 = omega (arith, s .within) in
-    let all = links-passed m l n t e in
+    let all = ap (map joins) (heard-passed m l n t e) in
     record { outside = s .outside; links = rw all at (rw last at (s .links)) }

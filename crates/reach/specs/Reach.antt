@@ -5,7 +5,7 @@ use Prim.Native.Nat.{ℕ, _+_, _*_, _≤_, _<_, max, min}
 use lib.ListN.{getD}
 use Rattle.paths.specs.Graph.{Graph, EndsBelow, Link, Way}
 use Rattle.paths.specs.Closure.{WayBelow}
-use Rattle.log.specs.Words.{kind, number}
+use Rattle.log.specs.Words.{kind, number, toEpisode}
 use Rattle.log.specs.Log.{graphOf}
 use Rattle.bits.specs.Bits.{bit}
 use Rattle.bits.specs.Work.{linksAt, waysAt, matrixWords, Matrix, Outside, nextAt}
@@ -23,7 +23,7 @@ pub record Marked (w w′ : List ℕ) (a b : ℕ) : Type 0 where
 -- the word `x` between head and end is taken: `from` becomes `r`
 pub record WordTaken (x from r : ℕ) (w w′ : List ℕ) : Type 0 where
   pub of-from : kind x ≡ 2 → (r ≡ number x) × (w′ ≡ w)
-  pub of-to : (kind x ≡ 2 → ⊥) → (r ≡ from) × Marked w w′ from (number x)
+  pub of-to : (kind x ≡ 2 → ⊥) → (r ≡ from) × Marked w w′ from (toEpisode x)
 
 -- the first matrix holds the links of the log
 pub record LinksMarked (l w w′ : List ℕ) : Type 0 where

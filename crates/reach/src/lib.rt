@@ -2,7 +2,7 @@
 ghost use mathlib.Core.Path.{_≡_};
 ghost use Prim.Native.Nat.{_+_, _*_, _<_, _≤_};
 ghost use lib.ListN.{length};
-ghost use Rattle.log.specs.Words.{kind, number};
+ghost use Rattle.log.specs.Words.{kind, toEpisode};
 ghost use Rattle.log.specs.Log.{graphOf, PassedLog};
 ghost use Rattle.bits.specs.Work.{nextAt};
 ghost use Rattle.rising.specs.Rising.{NoWays};
@@ -21,14 +21,14 @@ fn mark(w: &mut [u32], a: usize, b: usize)
 
 // Takes a word between head and end: a from word's number is given back, and a to word's link from `from` is marked.
 fn take_word(word: u32, from: usize, w: &mut [u32]) -> usize
-    requires { ⌜ (nextAt ≤ length (now w)) × (number word < 256) × ((kind word ≡ 2 → ⊥) → from < 256) ⌝ }
+    requires { ⌜ (nextAt ≤ length (now w)) × ((kind word ≡ 2 → ⊥) → (from < 256) × (toEpisode word < 256)) ⌝ }
     ensures { λ r. ⌜ WordTaken word from r (now (w .entry)) (now (w .exit)) ⌝ }
 {
-    let number = log::number_of(word);
     if log::kind_of(word) == 2 {
-        return number;
+        return log::number_of(word);
     }
-    mark(w, from, number);
+    let to = log::to_word_of(word);
+    mark(w, from, to.episode);
     from
 }
 

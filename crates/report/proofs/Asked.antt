@@ -9,7 +9,7 @@ use lib.Dec.{leb, ltb, eqb}
 use borrow.Author.Tests.{le-leb, lt-leb, leb-true}
 use Rattle.log.specs.Words.{kind, number}
 use Rattle.log.specs.Answer.{Answer, given, refused, question, andThen}
-use Rattle.log.specs.Log.{isFrom, isTo, toBeforeLast, headWord, groupWord, endWord, counted, onwards, questions}
+use Rattle.log.specs.Log.{isFrom, isTo, toBeforeLast, figure, minutes, headWord, groupWord, endWord, counted, onwards, questions}
 use Rattle.log.specs.declared.Ceilings.{Ceilings}
 use Rattle.report.specs.Report.{workWords, lent, asked}
 
@@ -61,21 +61,21 @@ module _ (m : Ceilings) (need : ℕ → ℕ → ℕ) (l : List ℕ) (out work n 
   asked-short-work h k = asked-read m need l out work n t e ∙ rw (le-leb (need n t) out h, lt-leb workWords work k)
 
 -- the number of a refusal, and 0 of what is given
-abbrev numberOf : Answer (ℕ × ℕ) → ℕ
+abbrev numberOf : {A : Type 0} → Answer A → ℕ
 numberOf (given a) = 0
 numberOf (refused q p) = q
 
-then-most : (x next : Answer (ℕ × ℕ)) → numberOf x ≤ 12 → numberOf next ≤ 12 → numberOf (andThen x next) ≤ 12
+then-most : {A B : Type 0} (x : Answer A) (next : Answer B) → numberOf x ≤ 12 → numberOf next ≤ 12 → numberOf (andThen x next) ≤ 12
 then-most (given a) next h g = g
 then-most (refused q p) next h g = h
 
 -- two questions, or the five that are put to a word between head and end, refuse with their own numbers
-two-most : (j k p r : ℕ) (a b : Bool) (x : ℕ × ℕ) → j ≤ 12 → k ≤ 12 → numberOf (question j p a (question k r b (given x))) ≤ 12
+two-most : {A : Type 0} (j k p r : ℕ) (a b : Bool) (x : A) → j ≤ 12 → k ≤ 12 → numberOf (question j p a (question k r b (given x))) ≤ 12
 two-most j k p r false b x h g = h
 two-most j k p r true false x h g = g
 two-most j k p r true true x h g = omega arith
 
-five-most : (p : ℕ) (a b c d e : Bool) (x : ℕ × ℕ)
+five-most : {A : Type 0} (p : ℕ) (a b c d e : Bool) (x : A)
     → numberOf (question 4 p a (question 5 p b (question 6 p c (question 7 p d (question 8 p e (given x)))))) ≤ 12
 five-most p false b c d e x = omega arith
 five-most p true false c d e x = omega arith
@@ -83,17 +83,19 @@ five-most p true true false d e x = omega arith
 five-most p true true true d e x = two-most 7 8 p p d e x (omega arith) (omega arith)
 
 head-most : (m : Ceilings) (w : ℕ) → numberOf (headWord m w) ≤ 12
-head-most m w = two-most 2 3 0 0 (eqb (kind w) 1) (leb (number w) (m .episodes)) (kind w, number w) (omega arith) (omega arith)
+head-most m w =
+    two-most {A = ℕ × ℕ × ℕ} 2 3 0 0 (eqb (kind w) 1) (leb (number w) (m .episodes)) (kind w, number w, 0) (omega arith) (omega arith)
 
 group-most : (m : Ceilings) (n p w : ℕ) (rest : List ℕ) (from : Bool) (t : ℕ) → numberOf (groupWord m n p w rest from t) ≤ 12
 unfolding groupWord
 group-most m n p w rest from t =
-    five-most p (isFrom w || isTo w) (not (isTo w) || from) (not (isFrom w) || toBeforeLast rest 0) (ltb (number w) n)
-    (not (isTo w) || leb (t + 1) (m .words)) (kind w, number w)
+    five-most {A = ℕ × ℕ × ℕ} p (isFrom w || isTo w) (not (isTo w) || from) (not (isFrom w) || toBeforeLast rest 0) (ltb (figure w) n)
+    (not (isTo w) || leb (t + 1) (m .words)) (kind w, figure w, minutes w)
 
 end-most : (p w t : ℕ) → numberOf (endWord p w t) ≤ 12
 unfolding endWord
-end-most p w t = two-most 9 10 p p (eqb (kind w) 15) (eqb (number w) t) (kind w, number w) (omega arith) (omega arith)
+end-most p w t =
+    two-most {A = ℕ × ℕ × ℕ} 9 10 p p (eqb (kind w) 15) (eqb (number w) t) (kind w, number w, 0) (omega arith) (omega arith)
 
 onwards-most : (m : Ceilings) (n p w : ℕ) (rest : List ℕ) (from : Bool) (t : ℕ) → numberOf (onwards m n p w rest from t) ≤ 12
 unfolding onwards
@@ -123,4 +125,4 @@ asked-most m need l out work q p e =
         rw (f, asked) (rw f at h)
     go (given (n, t)) f =
         rw (asked-read m need l out work n t f)
-        (two-most 11 12 (need n t) workWords (leb (need n t) out) (leb workWords work) (n, t) (omega arith) (omega arith))
+        (two-most {A = ℕ × ℕ} 11 12 (need n t) workWords (leb (need n t) out) (leb workWords work) (n, t) (omega arith) (omega arith))

@@ -17,6 +17,7 @@ use Rattle.paths.proofs.Numbers.{rising-equal}
 use Rattle.paths.proofs.Passing.{passing-more, passing-le, passing-below, passing-test, test-passing, passing-rising}
 use Rattle.paths.proofs.Trimming.{stays-direct, direct-stays, trimmed-ends}
 use Rattle.log.specs.Words.{word}
+use Rattle.log.proofs.Words.{to-unpaused}
 use Rattle.bits.specs.Bits.{digit, bit}
 use Rattle.bits.specs.Work.{linksAt}
 use Rattle.bits.proofs.Digits.{digit-lt, Rest, rest-here, rest-below, rest-least, rest-none, rest-end}
@@ -25,18 +26,18 @@ use Rattle.writing.proofs.Listing.{Listing, listing-more, listing-skip}
 use Rattle.copying.specs.FairCopy.{linked, linkedTo, group}
 use Rattle.copying.proofs.Linked.{both, length-group, linkedTo-mem, mem-linkedTo}
 use Rattle.trimming.specs.TrimmedCopy.{trimmed}
-use Rattle.trimming.specs.Trimming.{Held, HoldsImplied, keptAt, keptTo, TellsDigits}
+use Rattle.trimming.specs.Trimming.{Held, HoldsImplied, keptAt, keptTo, toUnpaused, TellsDigits}
 use Rattle.trimming.proofs.Kept.{trimmed-is}
 
 -- ---- the bits of a word
 
 -- The to words of the bits of `x` below `k` are written, and `rest` has the others.
 module _ (first : ℕ) {test : ℕ → Bool} {o o′ : List ℕ} {x rest k count : ℕ} (tells : TellsDigits test x first) (few : first + 32 ≤ 256) (r : Rest x rest k)
-    (s : Listing test 3 o o′ 256 count (first + k)) where
+    (s : Listing test toUnpaused o o′ 256 count (first + k)) where
   -- none passes where the digits are zero
-  up-to : (t : ℕ) → k ≤ t → t ≤ 32 → ((j : ℕ) → k ≤ j → j < t → digit x j ≡ 0) → Listing test 3 o o′ 256 count (first + t)
+  up-to : (t : ℕ) → k ≤ t → t ≤ 32 → ((j : ℕ) → k ≤ j → j < t → digit x j ≡ 0) → Listing test toUnpaused o o′ 256 count (first + t)
   up-to t lo hi none =
-      listing-skip test 3 o o′ 256 count (first + k) s (first + t) (omega arith) (omega arith)
+      listing-skip test toUnpaused o o′ 256 count (first + k) s (first + t) (omega arith) (omega arith)
       (λ c l h.
       let e : first + (c - first) ≡ c = omega arith in
       rw e at (tells (c - first) (omega arith) ∙ ne-eqb (digit x (c - first)) 1 (λ f. omega (arith, none (c - first) (omega arith) (omega arith)))))
@@ -45,7 +46,7 @@ module _ (first : ℕ) {test : ℕ → Bool} {o o′ : List ℕ} {x rest k count
     passes : test (first + trailingZeros 32 rest) ≡ true
     passes = tells (trailingZeros 32 rest) (rest-below r some) ∙ eq-eqb _ 1 (rest-here r some)
 
-    here : Listing test 3 o o′ 256 count (first + trailingZeros 32 rest)
+    here : Listing test toUnpaused o o′ 256 count (first + trailingZeros 32 rest)
     here = up-to (trailingZeros 32 rest) (rest-least r some) (omega (arith, rest-below r some)) (rest-none r some)
 
     -- there is room for one more
@@ -57,13 +58,13 @@ module _ (first : ℕ) {test : ℕ → Bool} {o o′ : List ℕ} {x rest k count
         omega (arith, here .size)
 
     pub bit-written : length (passing test 256) < length o
-        → Listing test 3 o (set o′ (count + 1) (word 3 (first + trailingZeros 32 rest))) 256 (count + 1) (first + (trailingZeros 32 rest + 1))
+        → Listing test toUnpaused o (set o′ (count + 1) (word 3 (first + trailingZeros 32 rest))) 256 (count + 1) (first + (trailingZeros 32 rest + 1))
     bit-written room =
         let e : first + trailingZeros 32 rest + 1 ≡ first + (trailingZeros 32 rest + 1) = omega arith in
-        rw e at
-        (listing-more test 3 o o′ 256 count (first + trailingZeros 32 rest) here (omega (arith, rest-below r some)) (bit-room room) passes)
+        rw (e, to-unpaused) at
+        (listing-more test toUnpaused o o′ 256 count (first + trailingZeros 32 rest) here (omega (arith, rest-below r some)) (bit-room room) passes)
 
-  pub bits-written : rest ≡ 0 → Listing test 3 o o′ 256 count (first + 32)
+  pub bits-written : rest ≡ 0 → Listing test toUnpaused o o′ 256 count (first + 32)
   bits-written e = up-to 32 (r .at-most) (omega arith) (λ j lo hi. rest-end r e j lo)
 
 -- ---- the words of a row
@@ -88,9 +89,9 @@ word-tells w a v i j h =
     (fresh-test (digit (getD w (linksAt + 8 * a + i) 0) j) (digit (getD v i 0) j) (digit-lt _ j) (digit-lt _ j))
 
 -- a group has a word for each of its links
-pub group-holds : (a : ℕ) (bs : List ℕ) (k : ℕ) → length (group a bs) < k → length bs < k
-group-holds a [] k h = omega arith
-group-holds a (b ∷ bs) k h = omega (arith, length-group a (b ∷ bs))
+pub group-holds : (a : ℕ) (pause : ℕ → ℕ) (bs : List ℕ) (k : ℕ) → length (group a pause bs) < k → length bs < k
+group-holds a pause [] k h = omega arith
+group-holds a pause (b ∷ bs) k h = omega (arith, length-group a pause (b ∷ bs))
 
 -- ---- they are the links that stay
 

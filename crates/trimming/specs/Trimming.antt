@@ -9,7 +9,7 @@ use lib.ListN.{length}
 use Rattle.paths.specs.Graph.{Graph, EndsBelow, Link, Way}
 use Rattle.paths.specs.Passing.{passing}
 use Rattle.paths.specs.Trimmed.{Implied}
-use Rattle.log.specs.Words.{Small}
+use Rattle.log.specs.Words.{Small, toWord}
 use Rattle.bits.specs.Bits.{digit, bit}
 use Rattle.bits.specs.Work.{linksAt, waysAt, nextAt, Matrix}
 
@@ -42,6 +42,10 @@ keptAt w a v b = eqb (bit w (linksAt + 8 * a) b) 1 && eqb (bit v 0 b) 0
 -- those that are, rising
 abbrev pub keptTo : List ℕ → ℕ → List ℕ → List ℕ
 keptTo w a v = passing (keptAt w a v) 256
+
+-- the to word of an episode with pause 0
+abbrev pub toUnpaused : ℕ → ℕ
+toUnpaused b = toWord b 0
 
 -- the test tells the digits of `x`, counted from `first` on
 abbrev pub TellsDigits : (ℕ → Bool) → ℕ → ℕ → Type 0

@@ -11,8 +11,8 @@ ghost use Rattle.writing.specs.Layout.{BeginsWith};
 ghost use Rattle.writing.proofs.Listing.{Listing};
 ghost use Rattle.copying.specs.FairCopy.{linkedTo, group};
 ghost use Rattle.copying.specs.Copying.{GroupWritten, GroupsWritten};
-ghost use Rattle.trimming.specs.TrimmedCopy.{trimmed, trimmedWords};
-ghost use Rattle.trimming.specs.Trimming.{Held, WaysAdded, HoldsImplied, keptTo, TellsDigits};
+ghost use Rattle.trimming.specs.TrimmedCopy.{trimmed, noPause, trimmedWords};
+ghost use Rattle.trimming.specs.Trimming.{Held, WaysAdded, HoldsImplied, keptTo, toUnpaused, TellsDigits};
 use bits::LINKS;
 use bits::WAYS;
 use copying::Written;
@@ -46,10 +46,10 @@ fn note_implied(w: &[u32], a: usize, implied: &mut [u32])
 
 // Writes a to word for each bit of `kept`, counted from `first` on, behind `links` others, and gives the count of all.
 fn write_word(kept: u32, first: usize, links: usize, out: &mut [u32]) -> usize
-    requires { ⌜ ((test : ℕ → Bool) × (o : List ℕ) × TellsDigits test kept first × Listing test 3 o (now out) 256 links first
+    requires { ⌜ ((test : ℕ → Bool) × (o : List ℕ) × TellsDigits test kept first × Listing test toUnpaused o (now out) 256 links first
         × (length (passing test 256) < length o)) × (first + 32 ≤ 256) ⌝ }
-    ensures { λ r. ⌜ ((test : ℕ → Bool) (o : List ℕ) → TellsDigits test kept first → Listing test 3 o (now (out .entry)) 256 links first
-        → length (passing test 256) < length o → Listing test 3 o (now (out .exit)) 256 r (first + 32)) ⌝ }
+    ensures { λ r. ⌜ ((test : ℕ → Bool) (o : List ℕ) → TellsDigits test kept first → Listing test toUnpaused o (now (out .entry)) 256 links first
+        → length (passing test 256) < length o → Listing test toUnpaused o (now (out .exit)) 256 r (first + 32)) ⌝ }
 {
     let mut count = links;
     let mut rest = kept;
@@ -64,8 +64,8 @@ fn write_word(kept: u32, first: usize, links: usize, out: &mut [u32]) -> usize
 
 // Writes the group of `a` with its links that are not implied, and gives their count.
 fn write_row(w: &[u32], a: usize, implied: &[u32], out: &mut [u32]) -> usize
-    requires { ⌜ (nextAt ≤ length (now w)) × (a < 256) × (length (now implied) ≡ 8) × (length (group a (keptTo (now w) a (now implied))) < length (now out)) ⌝ }
-    ensures { λ r. ⌜ GroupWritten a (keptTo (now (w .entry)) a (now (implied .entry))) (now (out .entry)) (now (out .exit)) r ⌝ }
+    requires { ⌜ (nextAt ≤ length (now w)) × (a < 256) × (length (now implied) ≡ 8) × (length (group a (noPause a) (keptTo (now w) a (now implied))) < length (now out)) ⌝ }
+    ensures { λ r. ⌜ GroupWritten a (noPause a) (keptTo (now (w .entry)) a (now (implied .entry))) (now (out .entry)) (now (out .exit)) r ⌝ }
 {
     let row = LINKS + 8 * a;
     let mut links = 0;
@@ -83,9 +83,9 @@ fn write_row(w: &[u32], a: usize, implied: &[u32], out: &mut [u32]) -> usize
 
 // The links of `a` that stay, written.
 fn trim_row(w: &[u32], n: usize, a: usize, out: &mut [u32]) -> usize
-    requires { ⌜ ((g : Graph) × Held g n (now w) × (length (group a (linkedTo a (trimmed g .links) n)) < length (now out))) × (a < n) ⌝ }
+    requires { ⌜ ((g : Graph) × Held g n (now w) × (length (group a (noPause a) (linkedTo a (trimmed g .links) n)) < length (now out))) × (a < n) ⌝ }
     ensures { λ r. ⌜ ((g : Graph) → Held g n (now (w .entry))
-        → GroupWritten a (linkedTo a (trimmed g .links) n) (now (out .entry)) (now (out .exit)) r) ⌝ }
+        → GroupWritten a (noPause a) (linkedTo a (trimmed g .links) n) (now (out .entry)) (now (out .exit)) r) ⌝ }
 {
     let mut implied = [0u32; 8];
     note_implied(w, a, &mut implied);
@@ -96,7 +96,7 @@ fn trim_row(w: &[u32], n: usize, a: usize, out: &mut [u32]) -> usize
 fn write_rows(w: &[u32], n: usize, out: &mut [u32]) -> Written
     requires { ⌜ ((g : Graph) × Held g n (now w) × (length (trimmedWords g) ≤ length (now out))) ⌝ }
     ensures { λ r. ⌜ ((g : Graph) → Held g n (now (w .entry)) → length (trimmedWords g) ≤ length (now (out .entry))
-        → GroupsWritten (trimmed g) (now (out .entry)) (now (out .exit)) (r .words) (r .links)) ⌝ }
+        → GroupsWritten noPause (trimmed g) (now (out .entry)) (now (out .exit)) (r .words) (r .links)) ⌝ }
 {
     let mut words = 1;
     let mut links = 0;

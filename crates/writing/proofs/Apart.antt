@@ -12,7 +12,7 @@ use Rattle.writing.specs.Writing.{ApartWritten}
 use Rattle.writing.proofs.Buffers.{begins-first}
 use Rattle.writing.proofs.Listing.{Listing}
 
-pub apart-done : (w o o′ : List ℕ) (n k v : ℕ) → Listing (memberTest (tables w)) 5 o o′ n k v → n ≤ v
+pub apart-done : (w o o′ : List ℕ) (n k v : ℕ) → Listing (memberTest (tables w)) (word 5) o o′ n k v → n ≤ v
     → ApartWritten w o (set o′ 0 (word 4 k)) n k
 apart-done w o o′ n k v s h =
     let i = s .item in

@@ -5,7 +5,6 @@ use Prim.Native.Nat.{ℕ, suc, _+_, _-_, _≤_, _<_}
 use native.Mathlib.Omega.{arith}
 use lib.ListN.{length-map, length, getD, set, take, drop, length-append, length-drop, length-set, drop-of-length-le}
 use lib.Seq.{take-all, drop-cons, append-snoc, set-at, take-at, drop-at, drop-drop, drop-set-lt}
-use Rattle.log.specs.Words.{word}
 use Rattle.writing.specs.Layout.{BeginsWith}
 
 pub length-snoc : {A : Type 0} (l : List A) (x : A) → length (l ++ (x ∷ [])) ≡ length l + 1
@@ -91,9 +90,9 @@ begins-over ws o o′ i x h b =
 pub begins-itself : (o : List ℕ) → 0 < length o → BeginsWith (getD o 0 0 ∷ []) o o
 begins-itself o h = (omega arith, drop-cons o 0 0 h)
 
--- a word of kind `k` is written behind a first word and words of that kind
-pub begins-word : (k y x at : ℕ) (l o o′ : List ℕ) → BeginsWith (y ∷ map (word k) l) o o′ → at ≡ length l + 1 → at < length o
-    → BeginsWith (y ∷ map (word k) (l ++ x ∷ [])) o (set o′ at (word k x))
-begins-word k y x at l o o′ b e h =
-    subst (λ (ws : List ℕ). BeginsWith (y ∷ ws) o (set o′ at (word k x))) (sym (map-append (word k) l (x ∷ [])))
-    (begins-more (y ∷ map (word k) l) o o′ b at (word k x) (let f = length-map l (word k) in omega arith) h)
+-- a number's word is written behind a first word and those of other numbers
+pub begins-word : (form : ℕ → ℕ) (y x at : ℕ) (l o o′ : List ℕ) → BeginsWith (y ∷ map form l) o o′ → at ≡ length l + 1 → at < length o
+    → BeginsWith (y ∷ map form (l ++ x ∷ [])) o (set o′ at (form x))
+begins-word form y x at l o o′ b e h =
+    subst (λ (ws : List ℕ). BeginsWith (y ∷ ws) o (set o′ at (form x))) (sym (map-append form l (x ∷ [])))
+    (begins-more (y ∷ map form l) o o′ b at (form x) (let f = length-map l form in omega arith) h)

@@ -106,7 +106,7 @@ module _ {w o o′ : List ℕ} {v count x : ℕ} (s : Written w o o′ v count x
         first = s .first;
         loop = s .loop ++ x ∷ [];
         size = sym (length-append (s .loop) (x ∷ []) ∙ omega arith);
-        words = begins-word 7 (s .first) x (count + 1) (s .loop) o o′ (s .words) (omega arith) (omega arith);
+        words = begins-word (word 7) (s .first) x (count + 1) (s .loop) o o′ (s .words) (omega arith) (omega arith);
         walk = λ g n k. walk-on (selves-of k) (shrunk-of k) (s .walk g n k) ne (omega arith);
       }
 

@@ -2,8 +2,9 @@
 -- Assumes nothing.
 use native.Mathlib.Omega.{arith}
 use borrow.Author.Needs.{needs}
-use Rattle.log.specs.Log.{graphOf}
-use Rattle.copying.proofs.Rows.{row-marks}
+use Rattle.log.specs.Log.{contentOf}
+use Rattle.log.proofs.Laws.{content-fits}
+use Rattle.copying.proofs.Rows.{row-length, row-short, row-words, row-written}
 use Rattle.copying.proofs.copy_row.Statement.{statement}
 use Rattle.copying.proofs.copy_row.Tie as tie
 
@@ -36,9 +37,14 @@ write-group-requires : tie.Need-write-group-requires
 write-group-requires c κs =
     let at = c .before .before .before .before .before in
     let s = start at in
-    let row =
-    row-marks (graphOf (s .args .log .now)) (s .args .a) (s .args .n) (at .block-of .last .1 .1 .0) (s .pre .1) (s .pre .2) (omega arith) (at .block-of .ensures) in
-    (rw (row .1) (s .pre .6), omega (arith, row .0), omega (arith, row .0))
+    let l = s .args .log .now in
+    let w = at .block-of .last .1 .1 .0 in
+    let size = row-length (contentOf l) (s .args .a) (s .args .n) w (s .pre .1) (s .pre .2) (omega arith) (at .block-of .ensures) in (
+      rw (row-words (contentOf l) (s .args .a) (s .args .n) w (s .pre .1) (s .pre .2) (omega arith) (at .block-of .ensures)) (s .pre .6),
+      omega arith,
+      omega arith,
+      row-short (contentOf l) (s .args .a) (s .args .n) w (s .pre .1) (s .pre .2) (omega arith) (at .block-of .ensures) (λ h i. content-fits l h i .1),
+    )
 
 same-length : tie.Need-same-length
 same-length c = search needs
@@ -49,10 +55,11 @@ same-length-2 c = search needs
 returns : tie.Need-returns
 returns c =
     let at = c .before .before .before .before .before .before .before .before in
-    let s = start at in
-    let row =
-    row-marks (graphOf (s .args .log .now)) (s .args .a) (s .args .n) (at .block-of .last .1 .1 .0) (s .pre .1) (s .pre .2) (omega arith) (at .block-of .ensures) in
-    (at .block-of .ensures, rw (row .1) at (c .before .before .write-group .ensures))
+    let s = start at in (
+      at .block-of .ensures,
+      row-written (contentOf (s .args .log .now)) (s .args .a) (s .args .n) (at .block-of .last .1 .1 .0) (s .pre .1) (s .pre .2) (omega arith)
+          (at .block-of .ensures) _ _ _ (c .before .before .write-group .ensures),
+    )
 
 pub copy-row-spec : {M : Type 1} → statement M
 copy-row-spec =

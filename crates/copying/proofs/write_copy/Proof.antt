@@ -2,7 +2,8 @@
 -- Assumes nothing.
 use borrow.Author.Needs.{needs}
 use native.Mathlib.Omega.{arith}
-use Rattle.log.specs.Log.{graphOf}
+use Rattle.log.specs.Content.{leastPause}
+use Rattle.log.specs.Log.{contentOf, graphOf}
 use Rattle.copying.proofs.Copies.{episodes-few, links-few, end-room, copy-whole}
 use Rattle.copying.proofs.write_copy.Statement.{statement}
 use Rattle.copying.proofs.write_copy.Tie as tie
@@ -23,7 +24,7 @@ write-ends-requires c κs =
     let fewer = links-few (s .args .log .now) (s .pre .0) (graphOf (s .args .log .now) .n) in (
       omega (arith, s .pre .1),
       omega (arith, written .ensures .link-count),
-      end-room (graphOf (s .args .log .now)) (s .args .out .now) (written .last .1 .1 .0) (written .result .words) (written .result .links)
+      end-room (leastPause (contentOf (s .args .log .now))) (graphOf (s .args .log .now)) (s .args .out .now) (written .last .1 .1 .0) (written .result .words) (written .result .links)
           (s .pre .3) (written .ensures),
     )
 
@@ -42,7 +43,7 @@ returns c =
     let s = start at in
     let written = at .write-groups in
     rw (c .before .before .write-ends .ensures)
-    (copy-whole (graphOf (s .args .log .now)) (s .args .out .now) (written .last .1 .1 .0) (written .result .words) (written .result .links)
+    (copy-whole (leastPause (contentOf (s .args .log .now))) (graphOf (s .args .log .now)) (s .args .out .now) (written .last .1 .1 .0) (written .result .words) (written .result .links)
     (s .pre .3) (written .ensures) _ (s .pre .1))
 
 pub write-copy-spec : {M : Type 1} → statement M

@@ -7,7 +7,8 @@ use mathlib.Core.List.{List}
 use Prim.Native.Nat.{ℕ, _-_, _/_, _%_, _≤_, _<_, _^_}
 use native.Mathlib.Omega.{arith}
 use lib.ListN.{length}
-use Rattle.log.specs.Log.{graphOf}
+use Rattle.log.specs.Content.{leastPause}
+use Rattle.log.specs.Log.{contentOf, graphOf}
 use Rattle.copying.specs.FairCopy.{linked, linkedTo}
 use Rattle.copying.specs.Copying.{BlockMarks, GroupWritten}
 use Rattle.paths.proofs.Passing.{length-passing}
@@ -29,7 +30,8 @@ use Rattle.copying.proofs.write_groups.Tie as tie
 
 abbrev Inv-loop : tie.InvT-loop
 Inv-loop log n out₀ w₀ words₀ links₀ a₀ out w words links a =
-    (length w ≡ length w₀) × (a % 64 ≢ 0 → BlockMarks (a / 64) (graphOf log) w) × Copying (graphOf log) out₀ out words links a
+    (length w ≡ length w₀) × (a % 64 ≢ 0 → BlockMarks (a / 64) (contentOf log) w)
+    × Copying (leastPause (contentOf log)) (graphOf log) out₀ out words links a
 
 abbrev μ-loop : tie.MeasureT-loop
 μ-loop log n out₀ w₀ words₀ links₀ a₀ out w words links a = n - a
@@ -37,7 +39,7 @@ abbrev μ-loop : tie.MeasureT-loop
 loop-holds : tie.Need-loop-holds Inv-loop μ-loop
 loop-holds c =
     let s = c .before .before .before in
-    (refl, λ e. absurd (e refl), copying-none (graphOf (s .args .log .now)) (s .args .out .now) (s .pre .3))
+    (refl, λ e. absurd (e refl), copying-none (leastPause (contentOf (s .args .log .now))) (graphOf (s .args .log .now)) (s .args .out .now) (s .pre .3))
 
 -- the entry, from the loop
 abbrev start : tie.At-loop Inv-loop μ-loop → tie.Start Inv-loop μ-loop
@@ -48,7 +50,7 @@ within : (c : tie.At-loop Inv-loop μ-loop) → c .loop .words ≤ length (c .lo
 within c = copying-at (c .loop .inv .2) (start c .pre .3)
 
 few-links : (c : tie.At-loop Inv-loop μ-loop) {o o′ : List ℕ} {r : ℕ}
-    → GroupWritten (c .loop .a) (linkedTo (c .loop .a) (graphOf (start c .args .log .now) .links) (start c .args .n)) o o′ r → r < 2 ^ 28
+    → GroupWritten (c .loop .a) (leastPause (contentOf (start c .args .log .now)) (c .loop .a)) (linkedTo (c .loop .a) (graphOf (start c .args .log .now) .links) (start c .args .n)) o o′ r → r < 2 ^ 28
 few-links c {r = r} g =
     let few = episodes-few (start c .args .log .now) in
     let most = length-passing (λ b. linked (c .loop .a) b (graphOf (start c .args .log .now) .links)) (start c .args .n) in
@@ -105,7 +107,7 @@ loop-again c =
     let at = c .before .before .before .before .before .before .before .before .before in
     let row = c .before .before .before .before .before .copy-row in (
       omega arith,
-      next-block (at .loop .a) (graphOf (start at .args .log .now)) (row .last .1 .1 .1 .1 .0) (row .ensures .0),
+      next-block (at .loop .a) (contentOf (start at .args .log .now)) (row .last .1 .1 .1 .1 .0) (row .ensures .0),
       copying-on (at .loop .inv .2) (start at .pre .3) _ (start at .pre .1) (omega arith) (row .ensures .1) refl (c .group-words .ensures),
     )
 

@@ -49,7 +49,7 @@ loop-holds c =
     let at = c .before .before .before .before .log in
     let v = c .enum-told .given in (
       from-taken (a .most) (now (a .log)) (a .n) (at .at) (at .count) (c .before .before .group-word .result) (v .0 .0) (v .0 .1 .0) (at .inv) (omega arith)
-          (c .before .before .group-word .ensures) (v .1),
+          (c .before .before .group-word .ensures) (v .0 .1 .1 .0) (v .1),
       omega arith,
     )
 
@@ -94,7 +94,7 @@ loop-again c =
     let test = c .before .before .before .before .to-before-last in
     let v = c .enum-told3 .given in (
       to-taken (a .most) (now (a .log)) (a .n) (at .at) (at .count) (c .before .before .group-word2 .result) (v .0 .0) (v .0 .1 .0)
-          (test .result) (at .inv .0) (test .ensures) (c .before .before .before .if2 .taken) (c .before .before .group-word2 .ensures) (v .1),
+          (test .result) (at .inv .0) (test .ensures) (c .before .before .before .if2 .taken) (c .before .before .group-word2 .ensures) (v .0 .1 .1 .0) (v .1),
       omega arith,
     )
 

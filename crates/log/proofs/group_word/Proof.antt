@@ -30,7 +30,7 @@ returns c =
     let w : ℕ = getD (now (a .log)) (a .at) 0 in
     cc (
       group-from (a .most) (a .n) (a .at) w (drop (a .at + 1) (now (a .log))) (a .from) (a .count)
-          (sym (c .before .before .before .kind-of .ensures) ∙ c .before .if1 .taken),
+          (sym (c .before .before .before .kind-of .ensures) ∙ c .before .before .if1 .taken),
       behind (now (a .log)) (a .at + 1),
     )
 
@@ -39,16 +39,16 @@ to-word-requires c κs = search needs
 
 returns-2 : tie.Need-returns-2
 returns-2 c =
-    let a = c .before .before .before .before .before .before .before .args in
+    let a = c .before .before .before .before .before .before .args in
     let w : ℕ = getD (now (a .log)) (a .at) 0 in
     cc
     (group-to (a .most) (a .n) (a .at) w (drop (a .at + 1) (now (a .log))) (a .from) (a .count)
-    (sym (c .before .before .before .before .kind-of .ensures) ∙ c .before .if2 .taken))
+    (sym (c .before .before .before .kind-of .ensures) ∙ c .before .if2 .taken))
 
 returns-3 : tie.Need-returns-3
 returns-3 c =
-    let a = c .before .before .before .before .before .before .args in
-    let kind = c .before .before .before .kind-of in
+    let a = c .before .before .before .before .before .args in
+    let kind = c .before .before .kind-of in
     sym
     (group-other (a .most) (a .n) (a .at) (getD (now (a .log)) (a .at) 0) (drop (a .at + 1) (now (a .log))) (a .from) (a .count)
     (λ e. c .before .if1 .left (kind .ensures ∙ e))

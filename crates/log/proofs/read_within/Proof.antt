@@ -4,7 +4,7 @@
 use mathlib.Core.Path.{_∙_, sym}
 use native.Mathlib.Omega.{arith}
 use denote.Ref.{now}
-use Rattle.log.proofs.Whole.{too-short, head-given-up, word-given-up, word-taken}
+use Rattle.log.proofs.Whole.{too-short, head-given-up, word-stopped}
 use borrow.Author.Needs.{needs}
 use Rattle.log.proofs.read_within.Statement.{statement}
 use Rattle.log.proofs.read_within.Tie as tie
@@ -41,37 +41,19 @@ first-stop-requires c κs = search needs
 log-word-requires : tie.Need-log-word-requires
 log-word-requires c κs = search needs
 
-enum-told-2 : tie.Need-enum-told-2
-enum-told-2 c = search needs
-
-enum-told-3 : tie.Need-enum-told-3
-enum-told-3 c = search needs
-
 answer-of-requires-2 : tie.Need-answer-of-requires-2
 answer-of-requires-2 c κs = search needs
 
 returns-3 : tie.Need-returns-3
 returns-3 c =
-    let a = c .before .before .before .before .before .before .before .before .before .before .before .before .args in
-    let head = c .before .before .before .before .before .before .before .before .head-word in
-    let taken = c .before .before .before .before .before .before .head .given in
-    let stop = c .before .before .before .before .first-stop in
-    let word = c .before .before .before .log-word in
-    let v = c .before .enum-told3 .given in
+    let a = c .before .before .before .before .before .before .before .before .before .before .args in
+    let head = c .before .before .before .before .before .before .head-word in
+    let taken = c .before .before .before .before .head .given in
+    let stop = c .before .before .first-stop in
+    let word = c .before .log-word in
     c .answer-of2 .ensures
-    ∙ word-given-up (a .most) (now (a .log)) (omega arith) (head .result) (head .ensures) (taken .0 .0) (taken .0 .1 .0) (taken .1)
-    (stop .result .place) (stop .result .count) (stop .ensures) (word .result) (word .ensures) (v .0 .0) (v .0 .1 .0) (v .1)
-
-returns-4 : tie.Need-returns-4
-returns-4 c =
-    let a = c .before .before .before .before .before .before .before .before .before .before .before .args in
-    let head = c .before .before .before .before .before .before .before .head-word in
-    let taken = c .before .before .before .before .before .head .given in
-    let stop = c .before .before .before .first-stop in
-    let word = c .before .before .log-word in
-    let v = c .enum-told2 .given in
-    word-taken (a .most) (now (a .log)) (omega arith) (head .result) (head .ensures) (taken .0 .0) (taken .0 .1 .0) (taken .1)
-    (stop .result .place) (stop .result .count) (stop .ensures) (word .result) (word .ensures) (v .0 .0) (v .0 .1 .0) (v .1)
+    ∙ word-stopped (a .most) (now (a .log)) (omega arith) (head .result) (head .ensures) (taken .0 .0) (taken .0 .1 .0) (taken .0 .1 .1 .0)
+    (taken .1) (stop .result .place) (stop .result .count) (stop .ensures) (word .result) (word .ensures)
 
 pub read-within-spec : {M : Type 1} → statement M
 read-within-spec =
@@ -86,8 +68,5 @@ read-within-spec =
     returns-2
     first-stop-requires
     log-word-requires
-    enum-told-2
-    enum-told-3
     answer-of-requires-2
-    returns-3
-    returns-4)
+    returns-3)

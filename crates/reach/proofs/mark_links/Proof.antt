@@ -4,7 +4,7 @@
 use Prim.Native.Nat.{_-_}
 use native.Mathlib.Omega.{arith}
 use lib.ListN.{length}
-use Rattle.reach.proofs.Marks.{Marking, marking-start, marking-on, marking-end, number-below, from-below}
+use Rattle.reach.proofs.Marks.{Marking, marking-start, marking-on, marking-end, ends-below}
 use Rattle.reach.proofs.mark_links.Statement.{statement}
 use Rattle.reach.proofs.mark_links.Tie as tie
 
@@ -31,8 +31,7 @@ take-word-requires c κs =
     let s = c .before .before .before .before .before .before in
     let at = c .before .before .before .loop in (
       omega arith,
-      number-below (s .args .log .now) (s .args .w .now) (at .w) (at .from) (at .at) (s .pre .0) (at .inv) (omega arith),
-      from-below (s .args .log .now) (s .args .w .now) (at .w) (at .from) (at .at) (s .pre .0) (at .inv) (omega arith),
+      ends-below (s .args .log .now) (s .args .w .now) (at .w) (at .from) (at .at) (s .pre .0) (at .inv) (omega arith),
     )
 
 add-at : tie.Need-add-at Inv-loop μ-loop

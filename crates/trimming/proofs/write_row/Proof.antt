@@ -7,13 +7,14 @@ use native.Mathlib.Omega.{arith}
 use lib.ListN.{length, length-set}
 use Rattle.writing.proofs.Listing.{Listing, listing-none}
 use Rattle.copying.proofs.Groups.{group-links, group-no-links}
-use Rattle.trimming.specs.Trimming.{keptAt, keptTo}
+use Rattle.trimming.specs.TrimmedCopy.{noPause}
+use Rattle.trimming.specs.Trimming.{keptAt, keptTo, toUnpaused}
 use Rattle.trimming.proofs.Rows.{word-tells, group-holds}
 use Rattle.trimming.proofs.write_row.Statement.{statement}
 use Rattle.trimming.proofs.write_row.Tie as tie
 
 abbrev Inv-loop : tie.InvT-loop
-Inv-loop w a implied out₀ row links₀ i₀ out links i = (i ≤ 8) × Listing (keptAt w a implied) 3 out₀ out 256 links (32 * i)
+Inv-loop w a implied out₀ row links₀ i₀ out links i = (i ≤ 8) × Listing (keptAt w a implied) toUnpaused out₀ out 256 links (32 * i)
 
 abbrev μ-loop : tie.MeasureT-loop
 μ-loop w a implied out₀ row links₀ i₀ out links i = 8 - i
@@ -27,14 +28,14 @@ add-row c = omega arith
 loop-holds : tie.Need-loop-holds Inv-loop μ-loop
 loop-holds c =
     let a = c .before .before .before .args in
-    (omega arith, listing-none (keptAt (a .w .now) (a .a) (a .implied .now)) 3 (a .out .now) 256 (omega (arith, c .before .before .before .pre .3)))
+    (omega arith, listing-none (keptAt (a .w .now) (a .a) (a .implied .now)) toUnpaused (a .out .now) 256 (omega (arith, c .before .before .before .pre .3)))
 
 -- the entry, from the loop, and the room for all links
 abbrev start : tie.At-loop Inv-loop μ-loop → tie.Start Inv-loop μ-loop
 start c = c .before .before .before .before
 
 room : (s : tie.Start Inv-loop μ-loop) → length (keptTo (s .args .w .now) (s .args .a) (s .args .implied .now)) < length (s .args .out .now)
-room s = group-holds (s .args .a) (keptTo (s .args .w .now) (s .args .a) (s .args .implied .now)) (length (s .args .out .now)) (s .pre .3)
+room s = group-holds (s .args .a) (noPause (s .args .a)) (keptTo (s .args .w .now) (s .args .a) (s .args .implied .now)) (length (s .args .out .now)) (s .pre .3)
 
 same-out : (c : tie.At-loop Inv-loop μ-loop) → length (c .loop .out) ≡ length (start c .args .out .now)
 same-out c = c .loop .inv .1 .same-length
@@ -77,17 +78,17 @@ loop-again c =
     let next : 32 * at .loop .i + 32 ≡ 32 * (at .loop .i + 1) = omega arith in
     let written = c .before .before .write-word in (
       omega arith,
-      subst (λ (v : ℕ). Listing test 3 (a .out .now) (written .last .1 .1 .1 .0) 256 (written .result) v) next
+      subst (λ (v : ℕ). Listing test toUnpaused (a .out .now) (written .last .1 .1 .1 .0) 256 (written .result) v) next
           (written .ensures test (a .out .now) (word-tells (a .w .now) (a .a) (a .implied .now) (at .loop .i)) (at .loop .inv .1) (room (start at))),
     )
 
 -- all words are done
 whole : (c : tie.At-loop Inv-loop μ-loop) → 8 ≤ c .loop .i
-    → Listing (keptAt (start c .args .w .now) (start c .args .a) (start c .args .implied .now)) 3 (start c .args .out .now) (c .loop .out) 256 (c .loop .links) 256
+    → Listing (keptAt (start c .args .w .now) (start c .args .a) (start c .args .implied .now)) toUnpaused (start c .args .out .now) (c .loop .out) 256 (c .loop .links) 256
 whole c h =
     let a = start c .args in
     let all : 32 * c .loop .i ≡ 256 = omega (arith, c .loop .inv .0) in
-    subst (λ (v : ℕ). Listing (keptAt (a .w .now) (a .a) (a .implied .now)) 3 (a .out .now) (c .loop .out) 256 (c .loop .links) v) all (c .loop .inv .1)
+    subst (λ (v : ℕ). Listing (keptAt (a .w .now) (a .a) (a .implied .now)) toUnpaused (a .out .now) (c .loop .out) 256 (c .loop .links) v) all (c .loop .inv .1)
 
 cast-out : tie.Need-cast-out Inv-loop μ-loop
 cast-out c = omega arith
@@ -105,7 +106,7 @@ returns : tie.Need-returns Inv-loop μ-loop
 returns c =
     let at = c .before .before in
     let a = start at .args in
-    group-links (keptAt (a .w .now) (a .a) (a .implied .now)) (a .out .now) (at .loop .out) 256 (at .loop .links) 256 (whole at (omega arith))
+    group-links (keptAt (a .w .now) (a .a) (a .implied .now)) (noPause (a .a)) (a .out .now) (at .loop .out) 256 (at .loop .links) 256 (whole at (omega arith))
     (omega arith) (a .a) (λ e. omega arith)
 
 same-length-2 : tie.Need-same-length-2 Inv-loop μ-loop
@@ -115,7 +116,7 @@ returns-2 : tie.Need-returns-2 Inv-loop μ-loop
 returns-2 c =
     let at = c .before .before in
     let a = start at .args in
-    group-no-links (keptAt (a .w .now) (a .a) (a .implied .now)) (a .out .now) (at .loop .out) 256 (at .loop .links) 256 (whole at (omega arith))
+    group-no-links (keptAt (a .w .now) (a .a) (a .implied .now)) (noPause (a .a)) (a .out .now) (at .loop .out) 256 (at .loop .links) 256 (whole at (omega arith))
     (omega arith) (a .a) (omega arith) (omega (arith, start at .pre .3))
 
 pub write-row-spec : {M : Type 1} → statement M

@@ -21,7 +21,7 @@ use Rattle.copying.proofs.Copies.{
   copying-all,
   group-length-few,
 }
-use Rattle.trimming.specs.TrimmedCopy.{trimmed, trimmedWords}
+use Rattle.trimming.specs.TrimmedCopy.{trimmed, noPause, trimmedWords}
 use Rattle.trimming.specs.Trimming.{Held}
 use Rattle.trimming.proofs.Kept.{trimmed-is, trimmed-few}
 use Rattle.trimming.proofs.write_rows.Statement.{statement}
@@ -29,13 +29,13 @@ use Rattle.trimming.proofs.write_rows.Tie as tie
 
 abbrev Inv-loop : tie.InvT-loop
 Inv-loop w n out₀ words₀ links₀ a₀ out words links a =
-    (g : Graph) → Held g n w → length (trimmedWords g) ≤ length out₀ → Copying (trimmed g) out₀ out words links a
+    (g : Graph) → Held g n w → length (trimmedWords g) ≤ length out₀ → Copying noPause (trimmed g) out₀ out words links a
 
 abbrev μ-loop : tie.MeasureT-loop
 μ-loop w n out₀ words₀ links₀ a₀ out words links a = n - a
 
 loop-holds : tie.Need-loop-holds Inv-loop μ-loop
-loop-holds c = λ g held fits. copying-none (trimmed g) (c .before .before .args .out .now) fits
+loop-holds c = λ g held fits. copying-none noPause (trimmed g) (c .before .before .args .out .now) fits
 
 -- the entry, from the loop
 abbrev start : tie.At-loop Inv-loop μ-loop → tie.Start Inv-loop μ-loop
@@ -46,7 +46,7 @@ abbrev graph : (c : tie.At-loop Inv-loop μ-loop) → Graph
 graph c = start c .pre .0
 
 here : (c : tie.At-loop Inv-loop μ-loop)
-    → Copying (trimmed (graph c)) (start c .args .out .now) (c .loop .out) (c .loop .words) (c .loop .links) (c .loop .a)
+    → Copying noPause (trimmed (graph c)) (start c .args .out .now) (c .loop .out) (c .loop .words) (c .loop .links) (c .loop .a)
 here c = let (g, held, fits) = start c .pre in c .loop .inv g held fits
 
 count : (g : Graph) {n : ℕ} {w : List ℕ} → Held g n w → trimmed g .n ≡ n
@@ -60,7 +60,7 @@ same-out : (c : tie.At-loop Inv-loop μ-loop) → length (c .loop .out) ≡ leng
 same-out c = copying-length (here c) (start c .pre .2)
 
 few-links : (c : tie.At-loop Inv-loop μ-loop) {o o′ : List ℕ} {r : ℕ}
-    → GroupWritten (c .loop .a) (linkedTo (c .loop .a) (trimmed (graph c) .links) (start c .args .n)) o o′ r → r < 2 ^ 28
+    → GroupWritten (c .loop .a) (noPause (c .loop .a)) (linkedTo (c .loop .a) (trimmed (graph c) .links) (start c .args .n)) o o′ r → r < 2 ^ 28
 few-links c {r = r} g =
     let most = length-passing (λ b. linked (c .loop .a) b (trimmed (graph c) .links)) (start c .args .n) in
     omega (arith, g .count, start c .pre .1 .few)

@@ -8,7 +8,7 @@ use lib.ListN.{length}
 use Rattle.copying.specs.Copying.{GroupsWritten}
 use Rattle.copying.proofs.GroupLinks.{length-group-links}
 use Rattle.copying.proofs.Copies.{end-room, copy-whole}
-use Rattle.trimming.specs.TrimmedCopy.{trimmed}
+use Rattle.trimming.specs.TrimmedCopy.{trimmed, noPause}
 use Rattle.trimming.proofs.Kept.{trimmed-is, trimmed-few}
 use Rattle.trimming.proofs.write_trimmed.Statement.{statement}
 use Rattle.trimming.proofs.write_trimmed.Tie as tie
@@ -22,13 +22,13 @@ start c = c .before .before .before .before
 
 -- the groups of a graph that the work words hold, and the room behind them
 groups : (c : tie.After-write-rows)
-    → GroupsWritten (trimmed (start c .pre .0)) (start c .args .out .now) (c .write-rows .last .1 .1 .0) (c .write-rows .result .words) (c .write-rows .result .links)
+    → GroupsWritten noPause (trimmed (start c .pre .0)) (start c .args .out .now) (c .write-rows .last .1 .1 .0) (c .write-rows .result .words) (c .write-rows .result .links)
 groups c = let (g, held, fits) = start c .pre in c .write-rows .ensures g held fits
 
 room : (c : tie.After-write-rows) → c .write-rows .result .words < length (c .write-rows .last .1 .1 .0)
 room c =
     let (g, held, fits) = start c .pre in
-    end-room (trimmed g) (start c .args .out .now) (c .write-rows .last .1 .1 .0) (c .write-rows .result .words) (c .write-rows .result .links) fits (groups c)
+    end-room noPause (trimmed g) (start c .args .out .now) (c .write-rows .last .1 .1 .0) (c .write-rows .result .words) (c .write-rows .result .links) fits (groups c)
 
 write-ends-requires : tie.Need-write-ends-requires
 write-ends-requires c κs =
@@ -52,7 +52,7 @@ returns c = λ g held fits.
     let at = c .before .before .before .before .before .before in
     let written = at .write-rows in
     rw (c .before .before .write-ends .ensures)
-    (copy-whole (trimmed g) (start at .args .out .now) (written .last .1 .1 .0) (written .result .words) (written .result .links)
+    (copy-whole noPause (trimmed g) (start at .args .out .now) (written .last .1 .1 .0) (written .result .words) (written .result .links)
     fits (written .ensures g held fits) _ (trimmed-is g .episodes ∙ held .count))
 
 pub write-trimmed-spec : {M : Type 1} → statement M

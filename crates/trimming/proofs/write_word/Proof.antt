@@ -11,7 +11,7 @@ use lib.ListN.{length}
 use Rattle.paths.specs.Passing.{passing}
 use Rattle.bits.proofs.Digits.{Rest, rest-start, rest-below, rest-on, rest-less}
 use Rattle.writing.proofs.Listing.{Listing}
-use Rattle.trimming.specs.Trimming.{TellsDigits}
+use Rattle.trimming.specs.Trimming.{toUnpaused, TellsDigits}
 use Rattle.trimming.proofs.Rows.{bit-room, bit-written, bits-written}
 use Rattle.trimming.proofs.write_word.Statement.{statement}
 use Rattle.trimming.proofs.write_word.Tie as tie
@@ -19,8 +19,8 @@ use Rattle.trimming.proofs.write_word.Tie as tie
 abbrev Inv-loop : tie.InvT-loop
 Inv-loop kept first links out₀ count₀ rest₀ out count rest =
     (k : ℕ) × Rest kept rest k
-    × ((test : ℕ → Bool) (o : List ℕ) → TellsDigits test kept first → Listing test 3 o out₀ 256 links first → length (passing test 256) < length o
-    → Listing test 3 o out 256 count (first + k))
+    × ((test : ℕ → Bool) (o : List ℕ) → TellsDigits test kept first → Listing test toUnpaused o out₀ 256 links first → length (passing test 256) < length o
+    → Listing test toUnpaused o out 256 count (first + k))
 
 abbrev μ-loop : tie.MeasureT-loop
 μ-loop kept first links out₀ count₀ rest₀ out count rest = 32 - trailingZeros 32 rest
@@ -30,12 +30,12 @@ loop-holds c =
     let e : c .args .first ≡ c .args .first + 0 = omega arith in (
       0,
       rest-start (c .args .kept) (omega arith),
-      λ test o tells s room. subst (λ (v : ℕ). Listing test 3 o (c .args .out .now) 256 (c .args .links) v) e s,
+      λ test o tells s room. subst (λ (v : ℕ). Listing test toUnpaused o (c .args .out .now) 256 (c .args .links) v) e s,
     )
 
 -- what is written of a test that tells the digits
 here : (c : tie.At-loop Inv-loop μ-loop)
-    → Listing (c .before .pre .0 .0) 3 (c .before .pre .0 .1) (c .loop .out) 256 (c .loop .count) (c .before .args .first + c .loop .inv .0)
+    → Listing (c .before .pre .0 .0) toUnpaused (c .before .pre .0 .1) (c .loop .out) 256 (c .loop .count) (c .before .args .first + c .loop .inv .0)
 here c = let (test, o, tells, s, room) = c .before .pre .0 in c .loop .inv .2 test o tells s room
 
 -- the lowest bit is one of 32, and there is room for its to word

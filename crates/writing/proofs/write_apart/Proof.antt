@@ -8,13 +8,14 @@ use native.Mathlib.Omega.{arith}
 use lib.ListN.{length-set}
 use Rattle.searching.specs.Items.{memberTest}
 use Rattle.searching.specs.State.{tables}
+use Rattle.log.specs.Words.{word}
 use Rattle.writing.proofs.Listing.{Listing, listing-none, listing-more, listing-same}
 use Rattle.writing.proofs.Apart.{apart-done}
 use Rattle.writing.proofs.write_apart.Statement.{statement}
 use Rattle.writing.proofs.write_apart.Tie as tie
 
 abbrev Inv-loop : tie.InvT-loop
-Inv-loop w n out₀ k₀ v₀ out k v = Listing (memberTest (tables w)) 5 out₀ out n k v
+Inv-loop w n out₀ k₀ v₀ out k v = Listing (memberTest (tables w)) (word 5) out₀ out n k v
 
 abbrev μ-loop : tie.MeasureT-loop
 μ-loop w n out₀ k₀ v₀ out k v = n - v
@@ -22,7 +23,7 @@ abbrev μ-loop : tie.MeasureT-loop
 loop-holds : tie.Need-loop-holds Inv-loop μ-loop
 loop-holds c =
     let a = c .before .before .args in
-    listing-none (memberTest (tables (a .w .now))) 5 (a .out .now) (a .n) (omega arith)
+    listing-none (memberTest (tables (a .w .now))) (word 5) (a .out .now) (a .n) (omega arith)
 
 is-member-requires : tie.Need-is-member-requires Inv-loop μ-loop
 is-member-requires c κs =
@@ -58,11 +59,11 @@ loop-again c =
     ⊎-elim
     (λ p.
     rw (p .1, p .2)
-    (listing-more (memberTest (tables (a .w .now))) 5 (a .out .now) (at .out) (a .n) (at .k) (at .v) (at .inv) (omega arith)
+    (listing-more (memberTest (tables (a .w .now))) (word 5) (a .out .now) (at .out) (a .n) (at .k) (at .v) (at .inv) (omega arith)
     (omega (arith, at .inv .few)) (test ∙ p .0 .taken)))
     (λ p.
     rw (p .1, p .2)
-    (listing-same (memberTest (tables (a .w .now))) 5 (a .out .now) (at .out) (a .n) (at .k) (at .v) (at .inv) (omega arith) (test ∙ p .0 .left)))
+    (listing-same (memberTest (tables (a .w .now))) (word 5) (a .out .now) (at .out) (a .n) (at .k) (at .v) (at .inv) (omega arith) (test ∙ p .0 .left)))
     (c .if1 .came)
 
 cast-out-2 : tie.Need-cast-out-2 Inv-loop μ-loop
