@@ -8,6 +8,7 @@ use crate::lent::{Filling, LONGEST, Lent};
 use crate::random::Random;
 use crate::reference::{Graph, Parts, Passed, Refusal, Subject, WORK, copy_need, lent, report_need};
 use crate::services::{Answer, Door, ReadAnswer, Services, ThreadAnswer};
+use crate::words::{TO, kind, pause};
 
 pub struct Caller<S> {
     services: S,
@@ -106,10 +107,15 @@ impl<S: Services> Caller<S> {
     fn count(&mut self, service: Service, number: u32, subject: &Subject) {
         self.counts.call(service, number);
         if let Some(shape) = self.shape {
-            self.counts.shape(shape);
+            self.counts.shape(shape, subject.words.iter().any(|&given| kind(given) == TO && pause(given) > 0));
         }
-        if let Ok((n, _)) = subject.reading {
-            self.counts.size(n);
+        match subject.reading {
+            Ok((n, _)) => self.counts.size(n),
+            Err(Refusal { number: 7, place }) => self.counts.seventh(&subject.words, place),
+            Err(_) => {}
+        }
+        for &pauses in subject.passed.iter().flat_map(Passed::pauses) {
+            self.counts.pauses(pauses);
         }
     }
 
@@ -264,7 +270,7 @@ impl<S: Services> Caller<S> {
             self.ask_kept(&mut found);
             match passed(subject, |_, t| copy_need(t), lengths) {
                 Err(refusal) => self.ask_refused(answer, refusal, &mut found),
-                Ok(passed) => self.ask_copy(Check::FairCopy, answer, &passed.graph.fair_copy(), &mut found),
+                Ok(passed) => self.ask_copy(Check::FairCopy, answer, passed.fair_copy(), &mut found),
             }
         }
         let copy = match answer.number {

@@ -6,7 +6,8 @@ use crate::counts::Asked;
 use crate::random::Random;
 use crate::reference::{Subject, WORK, parts};
 use crate::services::{ReadAnswer, Services};
-use crate::words::{HEAD, LOOP, STEP, TO, hex, log, word};
+use crate::shapes;
+use crate::words::{HEAD, LOOP, Noted, STEP, TO, hex, log, older, word};
 
 /// Words as they are written: hexadecimal, spaces between them.
 fn words(text: &str) -> Vec<u32> {
@@ -25,9 +26,15 @@ const DIAMOND: &str = "10000004 20000000 30000001 30000002 20000001 30000003 200
 const BESIDE: &str = "10000003 20000000 30000001 20000001 30000002 20000000 30000002 F0000003";
 const AROUND: &str = "10000002 20000000 30000001 20000001 30000000 F0000002";
 const ITSELF: &str = "10000001 20000000 30000000 F0000001";
+/// 0-1 with 2 minutes, and with 1.
+const TWO_PAUSES: &str = "10000002 20000000 30020001 30010001 F0000002";
+/// 0-1 with 5 minutes, 1-2 with 4,095, and 0-2 with 1.
+const BESIDE_PAUSED: &str = "10000003 20000000 30050001 20000001 3FFF0002 20000000 30010002 F0000003";
+/// 0-1 with 4,095 minutes, 1-0 with 7.
+const AROUND_PAUSED: &str = "10000002 20000000 3FFF0001 20000001 30070000 F0000002";
 
 /// Logs with their reports. Where the cover is free, all that there can be are listed.
-const REPORTS: [(&str, &[&str]); 9] = [
+const REPORTS: [(&str, &[&str]); 12] = [
     (EMPTY, &["40000000 F0000001"]),
     ("10000001 F0000000", &["40000001 50000000 60000001 70000000 F0000004"]),
     (WHOLE, &[WHOLE_REPORT]),
@@ -64,12 +71,18 @@ const REPORTS: [(&str, &[&str]); 9] = [
         "10000003 20000002 30000001 20000001 30000000 F0000002",
         &["40000001 50000000 60000003 70000002 70000001 70000000 F0000006"],
     ),
+    // The same with pauses.
+    ("10000005 20000000 3FFF0001 20000002 30010003 F0000002", &[WHOLE_REPORT]),
+    (BESIDE_PAUSED, &["40000001 50000002 60000003 70000000 70000001 70000002 F0000006"]),
+    (TWO_PAUSES, &["40000001 50000001 60000002 70000000 70000001 F0000005"]),
 ];
 
 /// Logs with the loops that they can show.
-const LOOPS: [(&str, &[&str]); 4] = [
+const LOOPS: [(&str, &[&str]); 6] = [
     (AROUND, &["80000002 70000000 70000001"]),
     (ITSELF, &["80000001 70000000"]),
+    (AROUND_PAUSED, &["80000002 70000000 70000001"]),
+    ("10000001 20000000 30010000 F0000001", &["80000001 70000000"]),
     ("10000004 20000003 30000001 20000001 30000002 20000002 30000003 F0000003", &["80000003 70000001 70000002 70000003"]),
     (
         "10000003 20000002 30000002 20000001 30000000 20000000 30000001 F0000003",
@@ -78,7 +91,7 @@ const LOOPS: [(&str, &[&str]); 4] = [
 ];
 
 /// Logs that are refused, with number and place. The last ones earn more than one refusal.
-const REFUSALS: [(&str, u32, usize); 26] = [
+const REFUSALS: [(&str, u32, usize); 43] = [
     ("", 1, 0),
     ("10000005", 1, 0),
     ("F0000000 F0000000", 2, 0),
@@ -95,6 +108,22 @@ const REFUSALS: [(&str, u32, usize); 26] = [
     ("10000003 20000003 30000001 F0000001", 7, 1),
     ("10000003 20000002 30000003 F0000001", 7, 2),
     ("10000000 20000000 30000000 F0000001", 7, 1),
+    // Later episodes that are too high, with a pause and without.
+    ("10000003 20000002 30010003 F0000001", 7, 2),
+    ("10000003 20000002 3FFF0003 F0000001", 7, 2),
+    ("10000003 20000000 30050001 3005FFFF F0000002", 7, 3),
+    ("10000003 20000000 30000100 F0000001", 7, 2),
+    ("10000003 20000000 30008001 F0000001", 7, 2),
+    ("10000000 20000000 30010000 F0000001", 7, 1),
+    ("100000C8 20000000 300100C7 20000001 300100C8 F0000002", 7, 4),
+    // The number of a from word has no pause, nor have those of head and end.
+    ("10000003 20010000 30000001 F0000001", 7, 1),
+    ("10000003 28000001 30010002 F0000001", 7, 1),
+    ("10000003 20000000 30010001 2FFF0001 30000002 F0000002", 7, 3),
+    ("10010003 F0000000", 3, 0),
+    ("10000003 F0010000", 10, 1),
+    ("10000003 20000000 30010001 F0010001", 10, 3),
+    ("10000003 20000000 30010001 F0000002", 10, 3),
     ("10000003 20000000 30000001 30000002", 9, 3),
     ("10000003 E0000000", 9, 1),
     ("10000003 20000000 30000001 F0000002", 10, 3),
@@ -105,10 +134,13 @@ const REFUSALS: [(&str, u32, usize); 26] = [
     ("10000003 30000009 F0000000", 5, 1),
     ("10000003 20000009 F0000000", 6, 1),
     ("10000003 20000000 30000009 E0000000", 7, 2),
+    ("10000003 30010009 F0000000", 5, 1),
+    ("10000003 20010000 F0000000", 6, 1),
+    ("10000003 20000000 30010003 20010000 30000001 F0000002", 7, 2),
 ];
 
-/// Logs with their fair copies.
-const COPIES: [(&str, &str); 6] = [
+/// Logs with their fair copies. The first ones are older logs, with older copies.
+const COPIES: [(&str, &str); 21] = [
     (EMPTY, EMPTY),
     (ALONE, ALONE),
     (WHOLE, WHOLE),
@@ -121,10 +153,37 @@ const COPIES: [(&str, &str); 6] = [
         "10000002 20000001 30000001 30000000 20000000 30000001 F0000003",
         "10000002 20000000 30000001 20000001 30000000 30000001 F0000003",
     ),
+    // The longest pause.
+    ("10000002 20000000 3FFF0001 F0000001", "10000002 20000000 3FFF0001 F0000001"),
+    ("100000C8 200000C7 3FFF00C7 30800000 F0000002", "100000C8 200000C7 30800000 3FFF00C7 F0000002"),
+    // One link with three pauses: the least is first, in the middle, last.
+    ("10000002 20000000 30020001 30030001 30040001 F0000003", "10000002 20000000 30020001 F0000001"),
+    ("10000002 20000000 30030001 30020001 30040001 F0000003", "10000002 20000000 30020001 F0000001"),
+    ("10000002 20000000 30040001 30030001 30020001 F0000003", "10000002 20000000 30020001 F0000001"),
+    // The same in three groups, with a link back that has another pause.
+    (
+        "10000002 20000000 30040001 20000001 30010000 20000000 30020001 20000000 30030001 F0000004",
+        "10000002 20000000 30020001 20000001 30010000 F0000002",
+    ),
+    // No pause beside the longest; 2,048 minutes beside 2,047; the same pause twice.
+    ("10000002 20000000 30000001 3FFF0001 F0000002", "10000002 20000000 30000001 F0000001"),
+    ("10000002 20000000 3FFF0001 30000001 F0000002", "10000002 20000000 30000001 F0000001"),
+    ("10000002 20000000 38000001 37FF0001 F0000002", "10000002 20000000 37FF0001 F0000001"),
+    ("10000002 20000000 30070001 20000000 30070001 F0000002", "10000002 20000000 30070001 F0000001"),
+    // To words rise by episode, though their numbers fall.
+    ("10000004 20000000 30010003 30020002 30030001 F0000003", "10000004 20000000 30030001 30020002 30010003 F0000003"),
+    ("10000004 20000000 30030001 30020002 30010003 F0000003", "10000004 20000000 30030001 30020002 30010003 F0000003"),
+    // A link keeps its own pause, whatever the others of its group have.
+    (
+        "10000003 20000001 30090002 30080000 20000000 30010002 20000001 30070002 F0000004",
+        "10000003 20000000 30010002 20000001 30080000 30070002 F0000003",
+    ),
+    ("10000001 20000000 30050000 20000000 30020000 F0000002", "10000001 20000000 30020000 F0000001"),
+    (AROUND_PAUSED, AROUND_PAUSED),
 ];
 
 /// Logs with their trimmed copies.
-const TRIMMED: [(&str, &str); 14] = [
+const TRIMMED: [(&str, &str); 19] = [
     (EMPTY, EMPTY),
     (ALONE, ALONE),
     (WHOLE, WHOLE),
@@ -161,6 +220,12 @@ const TRIMMED: [(&str, &str); 14] = [
         "10000006 20000000 30000001 30000002 20000001 30000003 30000004 20000002 30000003 30000004 20000003 30000005 \
          20000004 30000005 F0000008",
     ),
+    // Pauses are left out: those of links that stay, and of links that do not.
+    (BESIDE_PAUSED, "10000003 20000000 30000001 20000001 30000002 F0000002"),
+    (TWO_PAUSES, "10000002 20000000 30000001 F0000001"),
+    ("10000002 20000000 3FFF0001 F0000001", "10000002 20000000 30000001 F0000001"),
+    ("10000004 20000000 30010003 30020002 30030001 F0000003", "10000004 20000000 30000001 30000002 30000003 F0000003"),
+    ("10000004 20000002 30030003 20000001 30020003 20000000 30090003 30080002 30010001 30000003 F0000006", DIAMOND),
 ];
 
 /// Logs that need so many words for their trimmed copy, lent exactly these, and the loops that they show.
@@ -297,9 +362,25 @@ pub fn all<S: Services>(caller: &mut Caller<S>) -> Checked<()> {
             return differ("thread", &given, format!("{said:X?} instead of {due:?} for thread {i}"));
         }
     }
+    three_pauses(caller, random)?;
     short_buffers(caller, random)?;
     at_the_ceilings(caller, random)?;
     at_most_three(caller, random)
+}
+
+/// 0-1 given three times, with every three of these pauses: the copy has the least of them.
+fn three_pauses<S: Services>(caller: &mut Caller<S>, random: &mut Random) -> Checked<()> {
+    let pauses = [(0, 0x3000_0001), (1, 0x3001_0001), (255, 0x30FF_0001), (256, 0x3100_0001), (4_095, 0x3FFF_0001)];
+    for i in 0..125 {
+        let three = [i / 25, i / 5 % 5, i % 5];
+        let due = vec![0x1000_0002, 0x2000_0000, pauses[three[0].min(three[1]).min(three[2])].1, 0xF000_0001];
+        let subject = Subject::new(log(2, &three.map(|i| (0, 1, pauses[i].0)), 4, random));
+        let said = caller.fair_copy(&subject, PLENTY, random)?;
+        if said.as_ref() != Ok(&due) {
+            return differ("fair_copy", &subject.words, format!("{said:X?} instead of {}", hex(&due)));
+        }
+    }
+    Ok(())
 }
 
 /// Questions 11 and 12.
@@ -323,6 +404,7 @@ fn short_buffers<S: Services>(caller: &mut Caller<S>, random: &mut Random) -> Ch
         (EMPTY, 1, WORK, (11, 2)),
         (BESIDE, 7, WORK, (11, 8)),
         (BESIDE, 8, WORK - 1, (12, 16_384)),
+        (TWO_PAUSES, 5, WORK, (11, 6)),
     ];
     for (log, out, work, due) in copies {
         let subject = Subject::new(words(log));
@@ -348,46 +430,62 @@ fn at_the_ceilings<S: Services>(caller: &mut Caller<S>, random: &mut Random) -> 
         _ => return differ("report", &most.words, "each of 200 episodes is a thread".into()),
     }
     refused(caller, log(201, &[], 0, random), (3, 0), random)?;
-    // One group of all links, and a group for each link: the 4,097th to word is at another place.
+    // One group of all links, and a group for each link: the 4,097th to word is at another place. The pauses are none,
+    // or fall from 4,095 to 2,048.
+    let none = vec![(0, 1, 0); 4_097];
+    let falling: Vec<Noted> = (0..4_097).map(|i| (0, 1, 4_095 - i / 2)).collect();
+    let trimmed = words("10000002 20000000 30000001 F0000001");
     for (splits, place) in [(0, 2 + 4_096), (16, 1 + 2 * 4_096 + 1)] {
-        let full = Subject::new(log(2, &[(0, 1); 4_096], splits, random));
-        read_as(caller, &full, 2, 4_096, random)?;
-        match caller.report(&full, PLENTY, random)? {
-            Gave::Report(_, said) if said == words("40000001 50000001 60000002 70000000 70000001 F0000005") => {}
-            _ => return differ("report", &full.words, "the report is that of one link".into()),
+        for (links, copy) in [(&none, "10000002 20000000 30000001 F0000001"), (&falling, "10000002 20000000 38000001 F0000001")] {
+            let full = Subject::new(log(2, &links[..4_096], splits, random));
+            read_as(caller, &full, 2, 4_096, random)?;
+            match caller.report(&full, PLENTY, random)? {
+                Gave::Report(_, said) if said == words("40000001 50000001 60000002 70000000 70000001 F0000005") => {}
+                _ => return differ("report", &full.words, "the report is that of one link".into()),
+            }
+            if caller.fair_copy(&full, PLENTY, random)?.as_ref() != Ok(&words(copy)) {
+                return differ("fair_copy", &full.words, format!("the copy is {copy}"));
+            }
+            trimmed_as(caller, &full, PLENTY, &Trimmed::Copy(trimmed.clone()), random)?;
+            refused(caller, log(2, links, splits, random), (8, place), random)?;
         }
-        let once = words("10000002 20000000 30000001 F0000001");
-        if caller.fair_copy(&full, PLENTY, random)?.as_ref() != Ok(&once) {
-            return differ("fair_copy", &full.words, "the copy has one link".into());
-        }
-        trimmed_as(caller, &full, PLENTY, &Trimmed::Copy(once), random)?;
-        refused(caller, log(2, &[(0, 1); 4_097], splits, random), (8, place), random)?;
+    }
+    let exact = Lengths { out: 8_194, work: WORK };
+    // The first 4,096 links to higher numbers, in the order of a copy, the pauses falling: it is its own copy.
+    let higher = (0..200).flat_map(|from| (from + 1..200).map(move |to| (from, to, 4_095 - to)));
+    let own = Subject::new(log(200, &Vec::from_iter(higher.take(4_096)), 0, random));
+    if caller.fair_copy(&own, exact, random)?.as_ref() != Ok(&own.words) {
+        return differ("fair_copy", &own.words, "the copy is the log".into());
     }
     // Links to the next of 200 episodes, to the one behind it, and so on to 4,096: the links to the next stay.
     let steps = (1..200).flat_map(|step| (0..200 - step).map(move |v| (v, v + step)));
     let most: Vec<_> = steps.take(4_096).collect();
-    let chain = log(200, &most[..199], 0, random);
-    let exact = Lengths { out: 8_194, work: WORK };
-    trimmed_as(caller, &Subject::new(log(200, &most, 0, random)), exact, &Trimmed::Copy(chain.clone()), random)?;
+    let chain = log(200, &older(&most[..199]), 0, random);
+    let paused: Vec<Noted> = most.iter().map(|&(from, to)| (from, to, 20 * from)).collect();
+    for links in [older(&most), paused] {
+        trimmed_as(caller, &Subject::new(log(200, &links, 0, random)), exact, &Trimmed::Copy(chain.clone()), random)?;
+    }
     trimmed_as(caller, &Subject::new(chain.clone()), Lengths { out: 400, work: WORK }, &Trimmed::Copy(chain), random)?;
     // One loop of all 200, in exactly the words that are needed.
-    let round: Vec<_> = (0..200).map(|v| (v, (v + 1) % 200)).collect();
+    let round: Vec<_> = (0..200).map(|v| (v, (v + 1) % 200, v)).collect();
     let shown = std::iter::once(word(LOOP, 200)).chain((0..200).map(|v| word(STEP, v))).collect();
     let exact = Lengths { out: 402, work: WORK };
     trimmed_as(caller, &Subject::new(log(200, &round, 0, random)), exact, &Trimmed::Loop(shown), random)
 }
 
-/// Every set of links on at most three episodes.
+/// Every set of links on at most three episodes, without pauses and with pauses at random.
 fn at_most_three<S: Services>(caller: &mut Caller<S>, random: &mut Random) -> Checked<()> {
     for n in 0..=3 {
         for set in 0..1usize << (n * n) {
             let links: Vec<_> = (0..n * n).filter(|i| set >> i & 1 == 1).map(|i| (i / n, i % n)).collect();
-            let subject = Subject::new(log(n, &links, 0, random));
-            caller.read(&subject, random)?;
-            let _ = caller.fair_copy(&subject, PLENTY, random)?;
-            let _ = caller.trimmed_copy(&subject, PLENTY, random)?;
-            if let Gave::Report(_, said) = caller.report(&subject, PLENTY, random)? {
-                caller.threads(&said, &parts(&said), &[0, 1, 2, 3], Asked::Whole, random)?;
+            for links in [older(&links), shapes::noted(&links, random)] {
+                let subject = Subject::new(log(n, &links, 0, random));
+                caller.read(&subject, random)?;
+                let _ = caller.fair_copy(&subject, PLENTY, random)?;
+                let _ = caller.trimmed_copy(&subject, PLENTY, random)?;
+                if let Gave::Report(_, said) = caller.report(&subject, PLENTY, random)? {
+                    caller.threads(&said, &parts(&said), &[0, 1, 2, 3], Asked::Whole, random)?;
+                }
             }
         }
     }

@@ -2,7 +2,7 @@
 //! what is expected, and nothing from the library.
 
 use crate::checks::{Check, Found};
-use crate::reference::{Graph, in_order};
+use crate::reference::{Graph, in_order, noted};
 use crate::words::{APART, END, LOOP, STEP, THREAD, WIDTH, kind, number};
 
 /// A report taken apart, by the kinds of its words alone.
@@ -131,7 +131,7 @@ pub fn not_a_loop(steps: &[usize], graph: &Graph) -> Option<String> {
     (!graph.linked(last, first)).then(|| format!("{last} is not linked to {first}"))
 }
 
-/// What keeps the words from being a log with the episodes and the ways of the graph, without repeats and without loops.
+/// What keeps the words from being a log with the episodes and the ways of the graph, without repeats, pauses and loops.
 pub fn no_same_ways(words: &[u32], graph: &Graph) -> Option<String> {
     let (n, t) = match in_order(words) {
         Ok(read) => read,
@@ -143,6 +143,9 @@ pub fn no_same_ways(words: &[u32], graph: &Graph) -> Option<String> {
     }
     if copy.links.len() != t {
         return Some(format!("{t} to words for {} links", copy.links.len()));
+    }
+    if let Some((from, to, pause)) = noted(words).into_iter().find(|link| link.2 > 0) {
+        return Some(format!("the trimmed copy has a pause of {pause} on {from}-{to}"));
     }
     if copy.has_loop() {
         return Some("the trimmed copy has a loop".into());

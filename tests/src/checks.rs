@@ -27,6 +27,7 @@ pub enum Check {
     Stretch,
     SameCopy,
     OtherCopy,
+    ReadBack,
     CopyOfCopy,
     SameReport,
     OwnThreads,
@@ -44,7 +45,7 @@ pub enum Check {
 
 use Check::*;
 
-pub const CHECKS: [(Check, &str, &str); 37] = [
+pub const CHECKS: [(Check, &str, &str); 38] = [
     (Number, "number", "the answer's number: 0 or that of the refusal"),
     (Place, "place", "the refusal's place"),
     (Values, "values", "n and the count of to words; the copy's count of words"),
@@ -67,20 +68,25 @@ pub const CHECKS: [(Check, &str, &str); 37] = [
     (FairCopy, "fair copy", "the fair copy, word for word"),
     (TrimmedCopy, "trimmed copy", "the trimmed copy, word for word"),
     (Stretch, "stretch", "the stretch of thread i, or an empty one"),
-    (SameCopy, "same copy", "logs with the same n and links have the same fair copy"),
-    (OtherCopy, "other copy", "a link more, or an episode more, gives another fair copy"),
+    (SameCopy, "same copy", "logs with the same n, links and least pauses have the same fair copy"),
+    (OtherCopy, "other copy", "a link more, an episode more, or another least pause, gives another fair copy"),
+    (ReadBack, "read back", "read back, the fair copy has the n of the log, and its links once, rising, with their least pauses"),
     (CopyOfCopy, "copy of copy", "the fair copy of a fair copy is itself"),
-    (SameReport, "same report", "logs with the same n and links have the same width and apart set, or both a loop"),
+    (
+        SameReport,
+        "same report",
+        "logs with the same n and links, whatever their pauses, have the same width and apart set, or both a loop",
+    ),
     (OwnThreads, "own threads", "each thread of a report can be had from its words, and no other"),
     (
         SameOutcome,
         "same outcome",
         "reading, report and trimmed copy have the same refusal 1 to 10; the last two both a loop, or none",
     ),
-    (SameTrimmed, "same trimmed", "logs with the same n and ways have the same trimmed copy"),
+    (SameTrimmed, "same trimmed", "logs with the same n and ways, whatever their pauses, have the same trimmed copy"),
     (OtherTrimmed, "other trimmed", "a way more, a way fewer, or an episode more, gives another trimmed copy"),
     (TrimmedOfCopies, "trimmed of copies", "fair and trimmed copy have the trimmed copy of the log; its fair copy is itself"),
-    (TrimmedWays, "trimmed ways", "the trimmed copy passes, with the n and the ways of the log, no repeat and no loop"),
+    (TrimmedWays, "trimmed ways", "the trimmed copy passes, with the n and the ways of the log, no repeat, no pause and no loop"),
     (TrimmedReport, "trimmed report", "log and trimmed copy have the same width and apart set"),
     (TrimmedCover, "trimmed cover", "the threads of the report on the trimmed copy are a cover of the log"),
     (Least, "least", "a log with the same n and ways has each link of the trimmed copy"),

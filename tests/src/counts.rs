@@ -1,5 +1,7 @@
 //! How often everything was met, and the table that a run ends with.
 
+use crate::words::{LONGEST_PAUSE, Noted, TO, episode, kind, number, pause};
+
 /// A list of things that are counted, each with its name in the table.
 macro_rules! counted {
     ($(#[$note:meta])* $list:ident { $($item:ident = $name:literal,)* }) => {
@@ -48,6 +50,32 @@ counted! {
 }
 
 counted! {
+    /// The pauses of logs that pass. A log can be of several of these.
+    Pauses {
+        Older = "none, as in older logs",
+        Few = "at most 3 minutes",
+        More = "more than 3 minutes",
+        Longest = "one of 4,095 minutes",
+        LeastFirst = "several on one link, the least first",
+        LeastBetween = "several on one link, the least in the middle",
+        LeastLast = "several on one link, the least last",
+        LeastZero = "several on one link, the least 0",
+        Back = "others on the link back",
+        Falling = "numbers that fall where the later episodes rise",
+    }
+}
+
+counted! {
+    /// The words that question 7 refuses.
+    Seventh {
+        To = "a to word without a pause",
+        ToPaused = "a to word with a pause",
+        From = "a from word",
+        FromLow = "a from word whose low 16 bits are below n",
+    }
+}
+
+counted! {
     /// What is done to a log that passes.
     Damage {
         Kind = "a kind changed",
@@ -64,6 +92,10 @@ counted! {
         End = "the end changed",
         From = "a from word more",
         FirstFrom = "the first from word removed",
+        Pause = "another pause",
+        PausedOut = "a later episode too high, with a pause",
+        FromBits = "bits 16 to 27 of a from word set",
+        EndBits = "bits 16 to 27 of head or end set",
     }
 }
 
@@ -100,10 +132,12 @@ counted! {
 counted! {
     /// The properties across calls.
     Property {
-        SameLinks = "same links, other order and repeats",
+        SameLinks = "same links and least pauses, other order and repeats",
+        ReadBack = "copy read back",
         CopyOfCopy = "copy of a copy",
         LinkMore = "a link more",
         EpisodeMore = "an episode more",
+        OtherPause = "another least pause",
         OwnThreads = "threads of its own report",
         SameOutcome = "same outcome of report and trimmed copy",
         Damaged = "same outcome, a damaged log",
@@ -113,6 +147,45 @@ counted! {
         WayMore = "a way more",
         WayFewer = "a way fewer",
         TrimmedEpisode = "an episode more, trimmed",
+    }
+}
+
+impl Pauses {
+    /// Those that a log with these links has.
+    pub fn met(noted: &[Noted]) -> Vec<Pauses> {
+        let mut met = Vec::new();
+        let mut meet = |pauses, holds: bool| {
+            if holds && !met.contains(&pauses) {
+                met.push(pauses);
+            }
+        };
+        let longest = noted.iter().map(|link| link.2).max();
+        meet(Pauses::Older, longest == Some(0));
+        meet(Pauses::Few, longest.is_some_and(|pause| (1..=3).contains(&pause)));
+        meet(Pauses::More, longest.is_some_and(|pause| pause > 3));
+        meet(Pauses::Longest, longest == Some(LONGEST_PAUSE));
+        // The repeats of a link side by side, in the order of the log; and each link with its least pause.
+        let mut sorted = noted.to_vec();
+        sorted.sort_by_key(|link| (link.0, link.1));
+        let mut once: Vec<Noted> = Vec::new();
+        for repeats in sorted.chunk_by(|one, next| (one.0, one.1) == (next.0, next.1)) {
+            let least = repeats.iter().map(|link| link.2).min().unwrap_or(0);
+            once.push((repeats[0].0, repeats[0].1, least));
+            let mut places = (0..repeats.len()).filter(|&place| repeats[place].2 == least);
+            if let (3.., Some(place), None) = (repeats.len(), places.next(), places.next()) {
+                meet(Pauses::LeastFirst, place == 0);
+                meet(Pauses::LeastBetween, place > 0 && place + 1 < repeats.len());
+                meet(Pauses::LeastLast, place + 1 == repeats.len());
+                meet(Pauses::LeastZero, least == 0);
+            }
+        }
+        let back = |&(from, to, least): &Noted| {
+            let place = once.binary_search_by_key(&(to, from), |link| (link.0, link.1));
+            place.is_ok_and(|place| once[place].2 != least)
+        };
+        meet(Pauses::Back, once.iter().any(back));
+        meet(Pauses::Falling, once.windows(2).any(|two| two[0].0 == two[1].0 && two[0].2 > two[1].2));
+        met
     }
 }
 
@@ -135,7 +208,7 @@ pub struct Counts {
     pub calls: u64,
     pub rounds: u64,
     numbers: [[u64; NUMBERS]; SERVICES],
-    lists: [(&'static str, &'static [&'static str], Vec<u64>); 8],
+    lists: [(&'static str, &'static [&'static str], Vec<u64>); 11],
 }
 
 impl Counts {
@@ -154,6 +227,9 @@ impl Counts {
                 list("calls by work length", WorkLength::NAMES),
                 list("properties", Property::NAMES),
                 list("calls by interface", &["Rust wrapper", "C header"]),
+                list("calls by shape of log, with a pause", Shape::NAMES),
+                list("calls by pauses of a log that passes", Pauses::NAMES),
+                list("calls refused by question 7, by its word", Seventh::NAMES),
             ],
         }
     }
@@ -165,8 +241,9 @@ impl Counts {
         }
     }
 
-    pub fn shape(&mut self, shape: Shape) {
+    pub fn shape(&mut self, shape: Shape, paused: bool) {
         self.lists[0].2[shape as usize] += 1;
+        self.lists[8].2[shape as usize] += u64::from(paused);
     }
 
     pub fn size(&mut self, n: usize) {
@@ -199,6 +276,22 @@ impl Counts {
 
     pub fn interface(&mut self, c: bool) {
         self.lists[7].2[usize::from(c)] += 1;
+    }
+
+    pub fn pauses(&mut self, pauses: Pauses) {
+        self.lists[9].2[pauses as usize] += 1;
+    }
+
+    /// Question 7 refuses the word at `place`.
+    pub fn seventh(&mut self, log: &[u32], place: usize) {
+        let given = log[place];
+        let seventh = match kind(given) {
+            TO if pause(given) > 0 => Seventh::ToPaused,
+            TO => Seventh::To,
+            _ if episode(given) < number(log[0]) => Seventh::FromLow,
+            _ => Seventh::From,
+        };
+        self.lists[10].2[seventh as usize] += 1;
     }
 
     pub fn add(&mut self, other: &Counts) {

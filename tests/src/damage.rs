@@ -2,7 +2,8 @@
 
 use crate::counts::Damage;
 use crate::random::Random;
-use crate::words::{FROM, LARGEST, kind, number, word};
+use crate::shapes::any_pause;
+use crate::words::{FROM, LARGEST, LONGEST_PAUSE, TO, episode, kind, number, to_word, word};
 
 /// Damages a log in one way. A way that needs words that are not there leaves the log as it is.
 pub fn to_log(words: &mut Vec<u32>, random: &mut Random) -> Damage {
@@ -22,6 +23,10 @@ pub fn to_log(words: &mut Vec<u32>, random: &mut Random) -> Damage {
         (End, 4),
         (From, 3),
         (FirstFrom, 2),
+        (Pause, 3),
+        (PausedOut, 4),
+        (FromBits, 4),
+        (EndBits, 3),
     ]);
     do_damage(damage, words, random);
     damage
@@ -50,7 +55,8 @@ fn do_damage(damage: Damage, words: &mut Vec<u32>, random: &mut Random) {
         }
         Damage::Added => {
             let kind = *random.pick(&[1, 2, 3, 4, 5, 6, 7, 15]);
-            words.insert(random.below(length + 1), word(kind, random.below(6)));
+            let number = random.below(6) | if random.chance(1, 4) { high_bits(random) } else { 0 };
+            words.insert(random.below(length + 1), word(kind, number));
         }
         Damage::Doubled => words.insert(place, words[place]),
         Damage::Swapped => words.swap(place, random.below(length)),
@@ -67,7 +73,40 @@ fn do_damage(damage: Damage, words: &mut Vec<u32>, random: &mut Random) {
                 words.remove(at);
             }
         }
+        Damage::Pause => {
+            if let Some(at) = any_of(TO, words, random) {
+                words[at] = to_word(episode(words[at]), any_pause(random));
+            }
+        }
+        Damage::PausedOut => {
+            if let Some(at) = any_of(TO, words, random) {
+                let (n, low) = (number(words[0]), episode(words[at]));
+                let episode = *random.pick(&[n, n + 1, 255, 256, low | 256, low | 0x4000, low | 0x8000, 65_535]);
+                words[at] = to_word(episode, 0) | word(0, high_bits(random));
+            }
+        }
+        Damage::FromBits => {
+            if let Some(at) = any_of(FROM, words, random) {
+                words[at] |= word(0, high_bits(random));
+            }
+        }
+        Damage::EndBits => {
+            let at = if random.chance(1, 2) { 0 } else { length - 1 };
+            words[at] |= word(0, high_bits(random));
+        }
     }
+}
+
+/// The place of a word of this kind.
+fn any_of(wanted: u32, words: &[u32], random: &mut Random) -> Option<usize> {
+    let places: Vec<usize> = (0..words.len()).filter(|&at| kind(words[at]) == wanted).collect();
+    if places.is_empty() { None } else { Some(*random.pick(&places)) }
+}
+
+/// A number that has some of the bits 16 to 27, and no other.
+fn high_bits(random: &mut Random) -> usize {
+    let bits = if random.chance(1, 2) { 1 << random.below(12) } else { random.between(1, LONGEST_PAUSE) };
+    bits << 16
 }
 
 fn changed(given: u32, random: &mut Random) -> u32 {

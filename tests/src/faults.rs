@@ -2,9 +2,10 @@
 
 use crate::checkers::{self, Shown};
 use crate::lent::Lent;
-use crate::reference::{Graph, WORK, copy_need, in_order, links, parts, report_need};
+use crate::reference::{Graph, WORK, copy_need, copy_words, in_order, least, noted, parts, report_need};
 use crate::services::{Answer, Door, Library, ReadAnswer, Services, ThreadAnswer};
-use crate::words::{APART, END, FROM, HEAD, LARGEST, Link, STEP, THREAD, TO, WIDTH, kind, number, word};
+use crate::words::{APART, END, FROM, HEAD, LARGEST, LONGEST_PAUSE, Link, Noted, STEP, THREAD, TO, WIDTH};
+use crate::words::{episode, kind, number, older, pause, to_word, word};
 
 macro_rules! faults {
     ($($fault:ident = $name:literal,)*) => {
@@ -96,11 +97,60 @@ faults! {
     TrimLoopBehind = "the word behind the trimmed call's loop changed",
     TrimLoopWork = "work words not zero after the trimmed call's 13",
     TrimThirteenFirst = "question 13 before questions 11 and 12 for a trimmed copy",
+    SevenWhole = "question 7 of a to word by its whole number",
+    SevenFromLow = "question 7 of a from word by its low 16 bits alone",
+    EpisodeByte = "the later episode by its low 8 bits alone",
+    EpisodeBit = "the later episode without bit 15",
+    HeadLow = "n by the head's low 16 bits alone",
+    EndLow = "the end's count by its low 16 bits alone",
+    PauseBit = "the pause without bit 27",
+    PauseDropped = "no pauses in the fair copy",
+    PauseLargest = "the largest pause for the least",
+    PauseFirst = "the first pause for the least",
+    PauseLast = "the last pause for the least",
+    PauseSum = "the sum of a link's pauses for the least",
+    PauseSigned = "pauses compared as numbers with a sign",
+    PauseZero = "pause 0 taken for none beside others",
+    PauseMost = "a link of 4,095 minutes left out of the copy",
+    PauseGroup = "the least pause of an episode's links for each of them",
+    PauseBack = "the least pause of a link and the link back for both",
+    PauseKept = "least pauses kept from one episode's links to the next one's",
+    PauseLastGroup = "the least pause of the last group that has the link",
+    PauseRepeats = "a link once for each of its pauses in the copy",
+    PauseRising = "to words of the copy rising by number",
+    TrimPause = "the least pause left in the trimmed copy",
+    TrimMinutes = "a link dropped only for a path of no more minutes",
+    PauseParts = "links with a pause do not join",
+    StepPause = "a thread's steps with the pauses before them",
+    LoopPause = "a loop's steps with the pauses before them",
 }
 
 pub struct Faulty(pub Fault);
 
 impl Faulty {
+    /// A call of the library, which gets the words of the log as the fault misreads them.
+    fn misread<T>(&self, log: &mut Lent, call: impl FnOnce(&mut Lent) -> T) -> T {
+        let words = log.lent().to_vec();
+        let last = words.len().saturating_sub(1);
+        for (place, given) in log.lent_mut().iter_mut().enumerate() {
+            let low = word(kind(*given), episode(*given));
+            *given = match (self.0, kind(*given)) {
+                // No log has so many episodes: the word is refused at its place.
+                (Fault::SevenWhole, TO) if pause(*given) > 0 => to_word(65_535, 0),
+                (Fault::SevenFromLow, FROM) => low,
+                (Fault::EpisodeByte, TO) => to_word(episode(*given) % 256, pause(*given)),
+                (Fault::EpisodeBit, TO) => to_word(episode(*given) % 32_768, pause(*given)),
+                (Fault::PauseBit, TO) => to_word(episode(*given), pause(*given) % 2_048),
+                (Fault::HeadLow, _) if place == 0 => low,
+                (Fault::EndLow, _) if place == last => low,
+                _ => *given,
+            }
+        }
+        let answer = call(log);
+        log.lent_mut().copy_from_slice(&words);
+        answer
+    }
+
     /// Faults of the reading, in every service that reads a log.
     fn refusal(&self, log: &[u32], number: u32, place: usize) -> (u32, usize) {
         let n = log.first().map_or(0, |&head| self::number(head));
@@ -178,6 +228,31 @@ fn turned(graph: &Graph) -> Vec<u32> {
     words
 }
 
+/// The log without the links whose least pause is above 0.
+fn without_paused(log: &[u32]) -> Vec<u32> {
+    let links: Vec<Noted> = least(&noted(log)).into_iter().filter(|link| link.2 == 0).collect();
+    copy_words(number(log[0]), &links)
+}
+
+/// The library's report on a log, on buffers that suffice, taken apart.
+fn shown_on(log: &[u32]) -> Option<Shown> {
+    let (mut out, mut work) = (vec![0; report_need(number(log[0]))], vec![0; WORK]);
+    let zohapy::Outcome::Report(count) = zohapy::report(log, &mut out, &mut work) else { return None };
+    checkers::layout(&out[..count]).ok()
+}
+
+/// Adds to each step the least pause of the link from the step before it, in bits 16 to 27. In a loop the last step
+/// stands before the first.
+fn add_pauses(log: &[u32], steps: &mut [usize]) {
+    let links = least(&noted(log));
+    let episodes = steps.to_vec();
+    for (i, step) in steps.iter_mut().enumerate() {
+        let before = episodes[(i + episodes.len() - 1) % episodes.len()];
+        let link = links.iter().find(|&&(from, to, _)| (from, to) == (before, *step));
+        *step += link.map_or(0, |link| link.2 << 16);
+    }
+}
+
 /// The largest set of at most ten episodes of which no two are linked.
 fn unlinked(graph: &Graph) -> Option<Vec<usize>> {
     if graph.n > 10 {
@@ -233,9 +308,7 @@ fn altered(fault: Fault, log: &[u32], mut shown: Shown) -> Option<Shown> {
         }
         Fault::KindFour => shown.width += 1,
         Fault::LeastFar => {
-            let (mut out, mut work) = (vec![0; report_need(graph.n)], vec![0; WORK]);
-            let zohapy::Outcome::Report(count) = zohapy::report(&turned(&graph), &mut out, &mut work) else { return None };
-            shown.apart = checkers::layout(&out[..count]).ok()?.apart;
+            shown.apart = shown_on(&turned(&graph))?.apart;
             let threads = shown.threads.clone();
             let holding = |member: &usize| threads.iter().find(|thread| thread.contains(member)).cloned();
             shown.threads = shown.apart.iter().map(holding).collect::<Option<_>>()?;
@@ -305,14 +378,21 @@ fn altered(fault: Fault, log: &[u32], mut shown: Shown) -> Option<Shown> {
             shown.apart[i] = other;
         }
         Fault::TwoMembers if k >= 2 => shown.threads[0] = shown.threads[1].clone(),
+        Fault::PauseParts => shown = shown_on(&without_paused(log))?,
+        Fault::StepPause => shown.threads.iter_mut().for_each(|thread| add_pauses(log, thread)),
         _ => return None,
     }
     Some(shown)
 }
 
 /// A loop with a fault in it.
-fn altered_loop(fault: Fault, steps: &mut Vec<u32>) {
+fn altered_loop(fault: Fault, log: &[u32], steps: &mut Vec<u32>) {
     match fault {
+        Fault::LoopPause => {
+            let mut episodes: Vec<usize> = steps.iter().map(|&step| number(step)).collect();
+            add_pauses(log, &mut episodes);
+            *steps = episodes.into_iter().map(|step| word(STEP, step)).collect();
+        }
         Fault::LoopTurned | Fault::TrimLoopTurned => steps.rotate_left(1),
         Fault::LoopOpen if steps.len() > 1 => drop(steps.pop()),
         Fault::LoopLonger => steps.push(steps[0]),
@@ -321,10 +401,10 @@ fn altered_loop(fault: Fault, steps: &mut Vec<u32>) {
 }
 
 /// The loop in the output with a fault in it; how many episodes it has then.
-fn rewrite_loop(fault: Fault, out: &mut Lent, length: usize) -> usize {
+fn rewrite_loop(fault: Fault, log: &[u32], out: &mut Lent, length: usize) -> usize {
     let mut words = out.lent()[..length + 1].to_vec();
     let mut steps = words.split_off(1);
-    altered_loop(fault, &mut steps);
+    altered_loop(fault, log, &mut steps);
     words[0] = words[0] & !LARGEST | steps.len() as u32;
     words.append(&mut steps);
     if rewrite(out, length + 1, &words) { words.len() - 1 } else { length }
@@ -335,6 +415,77 @@ fn swap_two(copy: &mut [u32]) {
     if let Some(place) = copy.windows(2).position(|pair| kind(pair[0]) == TO && kind(pair[1]) == TO) {
         copy.swap(place, place + 1);
     }
+}
+
+/// Each link once, rising, with the pause that is chosen from its pauses in the order of the log.
+fn chosen(log: &[u32], choose: impl Fn(&[usize]) -> usize) -> Vec<Noted> {
+    let mut sorted = noted(log);
+    sorted.sort_by_key(|link| (link.0, link.1));
+    let repeats = sorted.chunk_by(|one, next| (one.0, one.1) == (next.0, next.1));
+    repeats.map(|links| (links[0].0, links[0].1, choose(&Vec::from_iter(links.iter().map(|link| link.2))))).collect()
+}
+
+/// The links of a copy with a fault in their pauses, or none where the fault is another.
+fn altered_pauses(fault: Fault, log: &[u32]) -> Option<Vec<Noted>> {
+    let smallest = |pauses: &[usize]| pauses.iter().copied().min().unwrap_or(0);
+    let mut links = least(&noted(log));
+    match fault {
+        Fault::PauseDropped => links.iter_mut().for_each(|link| link.2 = 0),
+        Fault::PauseLargest => links = chosen(log, |pauses| pauses.iter().copied().max().unwrap_or(0)),
+        Fault::PauseFirst => links = chosen(log, |pauses| pauses[0]),
+        Fault::PauseLast => links = chosen(log, |pauses| pauses[pauses.len() - 1]),
+        Fault::PauseSum => links = chosen(log, |pauses| pauses.iter().sum::<usize>().min(LONGEST_PAUSE)),
+        Fault::PauseSigned => {
+            let signed = |pause: &usize| (pause + 2_048) % 4_096;
+            links = chosen(log, |pauses| pauses.iter().copied().min_by_key(signed).unwrap_or(0));
+        }
+        Fault::PauseZero => {
+            links = chosen(log, |pauses| smallest(&Vec::from_iter(pauses.iter().copied().filter(|&pause| pause > 0))));
+        }
+        Fault::PauseMost => links.retain(|link| link.2 < LONGEST_PAUSE),
+        Fault::PauseGroup => {
+            for group in links.chunk_by_mut(|one, next| one.0 == next.0) {
+                let pause = smallest(&Vec::from_iter(group.iter().map(|link| link.2)));
+                group.iter_mut().for_each(|link| link.2 = pause);
+            }
+        }
+        Fault::PauseBack => {
+            let all = links.clone();
+            for link in &mut links {
+                let back = all.binary_search_by_key(&(link.1, link.0), |other| (other.0, other.1));
+                link.2 = back.map_or(link.2, |back| link.2.min(all[back].2));
+            }
+        }
+        Fault::PauseKept => {
+            let mut known = vec![LONGEST_PAUSE; number(log[0])];
+            for link in &mut links {
+                known[link.1] = known[link.1].min(link.2);
+                link.2 = known[link.1];
+            }
+        }
+        Fault::PauseLastGroup => {
+            // The groups are numbered from the last one, so that a link's last group comes first.
+            let (mut from, mut group, mut all) = (0, log.len(), Vec::new());
+            for &given in log {
+                match kind(given) {
+                    FROM => (from, group) = (number(given), group - 1),
+                    TO => all.push((from, episode(given), group, pause(given))),
+                    _ => {}
+                }
+            }
+            all.sort_unstable();
+            all.dedup_by_key(|link| (link.0, link.1));
+            links = all.into_iter().map(|(from, to, _, pause)| (from, to, pause)).collect();
+        }
+        Fault::PauseRepeats => {
+            links = noted(log);
+            links.sort_unstable();
+            links.dedup();
+        }
+        Fault::PauseRising => links.sort_by_key(|&(from, to, pause)| (from, pause, to)),
+        _ => return None,
+    }
+    Some(links)
 }
 
 /// A copy with a fault in it.
@@ -348,12 +499,15 @@ fn altered_copy(fault: Fault, log: &[u32], copy: &mut Vec<u32>) {
         Fault::CopyFalling => swap_two(copy),
         Fault::CopyAsIs => *copy = log.to_vec(),
         Fault::CopyNoLoops => {
-            let graph = Graph::of(copy);
-            let others: Vec<Link> = graph.links.into_iter().filter(|link| link.0 != link.1).collect();
-            *copy = Graph::new(graph.n, others).fair_copy();
+            let others: Vec<Noted> = noted(copy).into_iter().filter(|link| link.0 != link.1).collect();
+            *copy = copy_words(number(copy[0]), &others);
         }
         Fault::CopyHead => copy[0] = word(HEAD, 200),
-        _ => {}
+        _ => {
+            if let Some(links) = altered_pauses(fault, log) {
+                *copy = copy_words(number(copy[0]), &links);
+            }
+        }
     }
 }
 
@@ -368,8 +522,8 @@ fn altered_trimmed(fault: Fault, log: &[u32], copy: &mut Vec<u32>) {
             kept = graph.links.iter().copied().filter(|link| !round(link)).collect();
         }
         Fault::TrimRepeat => {
-            let given = links(log);
-            kept.retain(|link| given.iter().filter(|other| *other == link).count() == 1);
+            let given = noted(log);
+            kept.retain(|&link| given.iter().filter(|&&(from, to, _)| (from, to) == link).count() == 1);
         }
         Fault::TrimFair => kept = graph.links,
         Fault::TrimLeftOut => drop(kept.pop()),
@@ -379,11 +533,38 @@ fn altered_trimmed(fault: Fault, log: &[u32], copy: &mut Vec<u32>) {
                 kept.extend((0..graph.n).filter(|&to| ways[to]).map(|to| (from, to)));
             }
         }
+        Fault::TrimMinutes => {
+            let links = least(&noted(log));
+            kept.extend(links.iter().filter(|&&link| !shorter_path(&links, graph.n, link)).map(|link| (link.0, link.1)));
+        }
+        Fault::TrimPause => {
+            let links = least(&noted(log)).into_iter().filter(|link| kept.contains(&(link.0, link.1)));
+            return *copy = copy_words(trimmed.n, &Vec::from_iter(links));
+        }
+        Fault::PauseParts => return *copy = trimmed_words(&without_paused(log)).unwrap_or_default(),
         Fault::TrimHead => return copy[0] = word(HEAD, 200),
         Fault::TrimFalling => return swap_two(copy),
         _ => return,
     }
-    *copy = Graph::new(trimmed.n, kept).fair_copy();
+    *copy = copy_words(trimmed.n, &older(&Graph::new(trimmed.n, kept).links));
+}
+
+/// Whether other links lead from the first episode to the second in no more minutes.
+fn shorter_path(links: &[Noted], n: usize, (first, second, most): Noted) -> bool {
+    let mut minutes = vec![None; n];
+    minutes[first] = Some(0);
+    let mut changed = true;
+    while changed {
+        changed = false;
+        for &(from, to, pause) in links.iter().filter(|link| (link.0, link.1) != (first, second)) {
+            let Some(before) = minutes[from] else { continue };
+            if minutes[to].is_none_or(|known| before + pause < known) {
+                minutes[to] = Some(before + pause);
+                changed = true;
+            }
+        }
+    }
+    minutes[second].is_some_and(|minutes| minutes <= most)
 }
 
 /// The words of the library's trimmed copy, on buffers that suffice.
@@ -405,7 +586,7 @@ fn give_trimmed(copy: &[u32], out: &mut Lent, work: &mut Lent) -> Option<Answer>
 
 impl Services for Faulty {
     fn read(&mut self, door: Door, log: &mut Lent) -> ReadAnswer {
-        let mut answer = Library.read(door, log);
+        let mut answer = self.misread(log, |log| Library.read(door, log));
         (answer.number, answer.place) = self.refusal(log.lent(), answer.number, answer.place);
         let words = log.lent();
         match self.0 {
@@ -421,7 +602,7 @@ impl Services for Faulty {
     }
 
     fn report(&mut self, door: Door, log: &mut Lent, out: &mut Lent, work: &mut Lent) -> Answer {
-        let mut answer = Library.report(door, log, out, work);
+        let mut answer = self.misread(log, |log| Library.report(door, log, out, work));
         assert!(self.0 != Fault::Panics || answer.number != 13, "a fault");
         self.buffers(answer, log, out, work);
         (answer.number, answer.value) = self.refusal(log.lent(), answer.number, answer.value);
@@ -441,10 +622,10 @@ impl Services for Faulty {
                 work.lent_mut().copy_from_slice(&work_words);
                 answer = Answer { number: 11, value: need + 1 };
             }
-            (Fault::LoopTurned | Fault::LoopOpen | Fault::LoopLonger, 13) => {
-                answer.value = rewrite_loop(self.0, out, answer.value);
+            (Fault::LoopTurned | Fault::LoopOpen | Fault::LoopLonger | Fault::LoopPause, 13) => {
+                answer.value = rewrite_loop(self.0, log.lent(), out, answer.value);
             }
-            (fault, 0) => {
+            (fault, 0) if in_order(log.lent()).is_ok() => {
                 let shown = checkers::layout(&out.lent()[..answer.value]);
                 if let Some(other) = shown.ok().and_then(|shown| altered(fault, log.lent(), shown)) {
                     let words = shown_words(&other);
@@ -459,7 +640,7 @@ impl Services for Faulty {
     }
 
     fn fair_copy(&mut self, door: Door, log: &mut Lent, out: &mut Lent, work: &mut Lent) -> Answer {
-        let mut answer = Library.fair_copy(door, log, out, work);
+        let mut answer = self.misread(log, |log| Library.fair_copy(door, log, out, work));
         self.buffers(answer, log, out, work);
         (answer.number, answer.value) = self.refusal(log.lent(), answer.number, answer.value);
         match (self.0, answer.number) {
@@ -468,7 +649,7 @@ impl Services for Faulty {
             (Fault::CopyNeed, 11) => answer.value = 2 + 2 * Graph::of(log.lent()).links.len(),
             (Fault::TwelveFirst, 11) if work.len() < WORK => answer = Answer { number: 12, value: WORK },
             (Fault::TwelveLength, 12) => answer.value = work.len(),
-            (fault, 0) => {
+            (fault, 0) if in_order(log.lent()).is_ok() => {
                 let mut copy = out.lent()[..answer.value].to_vec();
                 altered_copy(fault, log.lent(), &mut copy);
                 if rewrite(out, answer.value, &copy) {
@@ -481,7 +662,7 @@ impl Services for Faulty {
     }
 
     fn trimmed_copy(&mut self, door: Door, log: &mut Lent, out: &mut Lent, work: &mut Lent) -> Answer {
-        let mut answer = Library.trimmed_copy(door, log, out, work);
+        let mut answer = self.misread(log, |log| Library.trimmed_copy(door, log, out, work));
         self.buffers(answer, log, out, work);
         (answer.number, answer.value) = self.refusal(log.lent(), answer.number, answer.value);
         let words = log.lent();
@@ -503,12 +684,12 @@ impl Services for Faulty {
                 }
             }
             (Fault::TrimLoopCopied, 13) => {
-                let copy = Graph::of(words).fair_copy();
+                let copy = copy_words(number(words[0]), &least(&noted(words)));
                 if rewrite(out, answer.value + 1, &copy) {
                     answer = Answer { number: 0, value: copy.len() };
                 }
             }
-            (Fault::TrimLoopTurned, 13) => answer.value = rewrite_loop(self.0, out, answer.value),
+            (Fault::TrimLoopTurned | Fault::LoopPause, 13) => answer.value = rewrite_loop(self.0, words, out, answer.value),
             (Fault::TrimLoopUnwritten, 13) => drop(rewrite(out, answer.value + 1, &[])),
             (Fault::TrimLoopBehind, 13) => change_at(out.lent_mut(), answer.value + 1),
             (Fault::TrimLoopWork, 13) => {
@@ -518,7 +699,7 @@ impl Services for Faulty {
             (Fault::TrimThirteenFirst, 11 | 12) if Graph::of(words).has_loop() => answer = Answer { number: 13, value: 1 },
             (Fault::TwelveFirst, 11) if work.len() < WORK => answer = Answer { number: 12, value: WORK },
             (Fault::TwelveLength, 12) => answer.value = work.len(),
-            (fault, 0) => {
+            (fault, 0) if in_order(words).is_ok() => {
                 let mut copy = out.lent()[..answer.value].to_vec();
                 altered_trimmed(fault, words, &mut copy);
                 if rewrite(out, answer.value, &copy) {

@@ -125,7 +125,7 @@ fn printed(path: &str, input: &[u8], piece: usize, pause: bool) -> Result<String
 /// An input for the program.
 fn input(index: usize, random: &mut Random) -> Vec<u8> {
     let lengths = [0, 1, 2, 3, 4, 5, 8, 32_771, 32_773, 32_774, 32_775, 32_776, 32_777, 32_778, 32_779, 32_780, 33_000, 200_000];
-    let full = |random: &mut Random| as_bytes(&log(200, &[(0, 199); 4_096], 16, random));
+    let full = |random: &mut Random| as_bytes(&log(200, &[(0, 199, 4_095); 4_096], 16, random));
     if index == 0 {
         return as_bytes(&[0x1000_0005, 0x2000_0000, 0x3000_0001, 0x2000_0002, 0x3000_0003, 0xF000_0002]);
     }
@@ -133,7 +133,7 @@ fn input(index: usize, random: &mut Random) -> Vec<u8> {
         return full(random);
     }
     if index < 8 {
-        return as_bytes(&log(random.between(2, 200), &[(0, 1); 4_097], 0, random));
+        return as_bytes(&log(random.between(2, 200), &[(0, 1, 30); 4_097], 0, random));
     }
     if index < 8 + 2 * lengths.len() {
         let mut bytes = if index.is_multiple_of(2) { full(random) } else { Vec::new() };

@@ -1,16 +1,16 @@
 //! A round: one log, and calls of all services on it.
 
-use crate::calls::{Caller, Copied, Gave, Lengths};
+use crate::calls::{Caller, Copied, Gave, Lengths, Trimmed};
 use crate::checkers::Shown;
 use crate::checks::{Check, Checked, Disagreement};
 use crate::counts::{Asked, Property};
 use crate::damage;
 use crate::random::Random;
-use crate::reference::{Subject, WORK, copy_need, parts, report_need};
-use crate::services::Services;
-use crate::shapes::{self, Linked};
+use crate::reference::{Subject, WORK, copy_need, in_order, noted, parts, report_need};
+use crate::services::{ReadAnswer, Services};
+use crate::shapes::{self, Linked, any_pause};
 use crate::trimmed;
-use crate::words::{LARGEST, STEP, TO, kind, log, report, word};
+use crate::words::{LARGEST, LONGEST_PAUSE, Link, Noted, STEP, TO, kind, log, report, word};
 
 /// A round of the run. All of it follows from its seed.
 pub fn round<S: Services>(caller: &mut Caller<S>, seed: u64) -> Checked<()> {
@@ -127,28 +127,34 @@ pub fn properties<S: Services>(caller: &mut Caller<S>, random: &mut Random) -> C
         Err(Box::new(Disagreement { service: "properties", found, lengths: String::new(), words: subject.words.clone() }))
     };
     if copy != other || copy.is_err() {
-        return differ(Check::SameCopy, "the copies of two logs with the same links differ", &same);
+        return differ(Check::SameCopy, "the copies of two logs with the same links and least pauses differ", &same);
     }
     let copy = copy.unwrap_or_default();
     let gave = reported(caller, &first, random)?;
-    match (&gave, &reported(caller, &same, random)?) {
-        (Gave::Loop(_), Gave::Loop(_)) => {}
-        (Gave::Report(a, _), Gave::Report(b, _)) if (a.width, &a.apart) == (b.width, &b.apart) => {}
-        _ => return differ(Check::SameReport, "the reports on two logs with the same links differ", &same),
+    if !alike(&gave, &reported(caller, &same, random)?) {
+        return differ(Check::SameReport, "the reports on two logs with the same links differ", &same);
+    }
+
+    caller.counts.property(Property::ReadBack);
+    let back = Subject::new(copy.clone());
+    let least: Vec<Noted> = linked.least().into_iter().map(|((from, to), pause)| (from, to, pause)).collect();
+    let due = ReadAnswer { number: 0, place: 0, episodes: linked.n, links: least.len() };
+    if caller.read(&back, random)? != due || in_order(&copy).is_err() || noted(&copy) != least {
+        return differ(Check::ReadBack, "the copy has another n, other links or other pauses", &first);
     }
 
     caller.counts.property(Property::CopyOfCopy);
-    let twice = copied(caller, &Subject::new(copy.clone()), random)?;
+    let twice = copied(caller, &back, random)?;
     if twice.as_ref() != Ok(&copy) {
         return differ(Check::CopyOfCopy, "the copy of the copy is another", &first);
     }
 
-    let free =
-        (0..8).map(|_| (random.below(linked.n.max(1)), random.below(linked.n.max(1)))).find(|link| !linked.links.contains(link));
-    if let (Some(link), true) = (free, linked.n > 0 && linked.links.len() < 4_096) {
+    let known = |link: &Link| linked.links.iter().any(|&(from, to, _)| (from, to) == *link);
+    let free = (0..8).map(|_| (random.below(linked.n.max(1)), random.below(linked.n.max(1)))).find(|link| !known(link));
+    if let (Some((from, to)), true) = (free, linked.n > 0 && linked.links.len() < 4_096) {
         caller.counts.property(Property::LinkMore);
         let mut more = Linked { n: linked.n, links: linked.links.clone() };
-        more.links.insert(random.below(more.links.len() + 1), link);
+        more.links.insert(random.below(more.links.len() + 1), (from, to, any_pause(random)));
         let more = Subject::new(shapes::written(&more, random));
         if copied(caller, &more, random)?.is_ok_and(|other| other == copy) {
             return differ(Check::OtherCopy, "a link more, and the same copy", &more);
@@ -159,6 +165,21 @@ pub fn properties<S: Services>(caller: &mut Caller<S>, random: &mut Random) -> C
         let more = Subject::new(log(linked.n + 1, &linked.links, 2, random));
         if copied(caller, &more, random)?.is_ok_and(|other| other == copy) {
             return differ(Check::OtherCopy, "an episode more, and the same copy", &more);
+        }
+    }
+    if let Some(other) = other_pause(&linked, random) {
+        caller.counts.property(Property::OtherPause);
+        let other = Subject::new(shapes::written(&other, random));
+        if copied(caller, &other, random)?.is_ok_and(|other| other == copy) {
+            return differ(Check::OtherCopy, "another least pause, and the same copy", &other);
+        }
+        if !alike(&gave, &reported(caller, &other, random)?) {
+            return differ(Check::SameReport, "another least pause, and another report", &other);
+        }
+        match (trimmed::trimmed(caller, &first, random)?, trimmed::trimmed(caller, &other, random)?) {
+            (Trimmed::Loop(_), Trimmed::Loop(_)) => {}
+            (Trimmed::Copy(one), Trimmed::Copy(two)) if one == two => {}
+            _ => return differ(Check::SameTrimmed, "another least pause, and another trimmed copy", &other),
         }
     }
 
@@ -175,17 +196,63 @@ pub fn properties<S: Services>(caller: &mut Caller<S>, random: &mut Random) -> C
     Ok(())
 }
 
-/// The same set of links, with other repeats.
+/// Whether two calls gave the same width and apart set, or both a loop.
+fn alike(one: &Gave, other: &Gave) -> bool {
+    match (one, other) {
+        (Gave::Loop(_), Gave::Loop(_)) => true,
+        (Gave::Report(one, _), Gave::Report(other, _)) => (one.width, &one.apart) == (other.width, &other.apart),
+        _ => false,
+    }
+}
+
+/// The same set of links with the same least pauses, with other repeats. Most of these have other pauses.
 pub fn again(linked: &Linked, random: &mut Random) -> Linked {
-    let mut links = linked.links.clone();
+    let least = linked.least();
+    let longer = |pause: usize, random: &mut Random| match random.below(4) {
+        0 => pause,
+        1 => random.between(pause, LONGEST_PAUSE.min(pause + 3)),
+        _ => random.between(pause, LONGEST_PAUSE),
+    };
+    // Where a to word has not the least pause, it can be left out, or have another pause.
+    let mut links = Vec::new();
+    for &(from, to, pause) in &linked.links {
+        let least = least[&(from, to)];
+        match random.below(4) {
+            0 if pause > least => {}
+            1 | 2 if pause > least => links.push((from, to, longer(least, random))),
+            _ => links.push((from, to, pause)),
+        }
+    }
     let room = 4_096 - links.len();
     if !links.is_empty() {
         for _ in 0..random.between(0, links.len().min(room).min(40)) {
-            links.push(*random.pick(&linked.links));
+            let (from, to, pause) = *random.pick(&linked.links);
+            links.push((from, to, longer(pause, random)));
         }
         random.shuffle(&mut links);
     }
     Linked { n: linked.n, links }
+}
+
+/// The same set of links, one of them with another least pause: its to words below a longer pause are raised to it, or
+/// one of them gets a shorter pause.
+fn other_pause(linked: &Linked, random: &mut Random) -> Option<Linked> {
+    let mut links = linked.links.clone();
+    if links.is_empty() {
+        return None;
+    }
+    let at = random.below(links.len());
+    let (from, to, _) = links[at];
+    let least = linked.least()[&(from, to)];
+    if least == 0 || (least < LONGEST_PAUSE && random.chance(1, 2)) {
+        let longer = if random.chance(1, 2) { least + 1 } else { random.between(least + 1, LONGEST_PAUSE) };
+        for link in links.iter_mut().filter(|link| (link.0, link.1) == (from, to)) {
+            link.2 = link.2.max(longer);
+        }
+    } else {
+        links[at].2 = if random.chance(1, 2) { least - 1 } else { random.below(least) };
+    }
+    Some(Linked { n: linked.n, links })
 }
 
 pub fn copied<S: Services>(caller: &mut Caller<S>, subject: &Subject, random: &mut Random) -> Checked<Copied> {

@@ -3,7 +3,8 @@
 use crate::counts::{Damage, Shape};
 use crate::damage;
 use crate::random::Random;
-use crate::words::{END, FROM, HEAD, LARGEST, Link, TO, log, word};
+use crate::words::{END, FROM, HEAD, LARGEST, LONGEST_PAUSE, Link, Noted, TO, kind, log, pause, to_word, word};
+use std::collections::BTreeMap;
 
 /// A log, its shape, and the damage that was done to it.
 pub struct Made {
@@ -12,10 +13,22 @@ pub struct Made {
     pub damage: Vec<Damage>,
 }
 
-/// Links that join episodes below n, with repeats, in the order in which a log gives them.
+/// Links that join episodes below n, with pauses and repeats, in the order in which a log gives them.
 pub struct Linked {
     pub n: usize,
-    pub links: Vec<Link>,
+    pub links: Vec<Noted>,
+}
+
+impl Linked {
+    /// The least pause of each link.
+    pub fn least(&self) -> BTreeMap<Link, usize> {
+        let mut least = BTreeMap::new();
+        for &(from, to, pause) in &self.links {
+            let known = least.entry((from, to)).or_insert(pause);
+            *known = pause.min(*known);
+        }
+        least
+    }
 }
 
 const MOST_EPISODES: usize = 200;
@@ -69,7 +82,7 @@ pub fn written(linked: &Linked, random: &mut Random) -> Vec<u32> {
     match random.below(4) {
         0 => {}
         1 => random.shuffle(&mut links),
-        2 => links.sort_unstable(),
+        2 => links.sort_by_key(|link| (link.0, link.1)),
         _ => {
             let mut order: Vec<usize> = (0..linked.n).collect();
             random.shuffle(&mut order);
@@ -149,7 +162,39 @@ fn linked(shape: Shape, random: &mut Random) -> Linked {
         random.shuffle(&mut names);
         links = links.iter().map(|&(from, to)| (names[from], names[to])).collect();
     }
-    Linked { n, links }
+    Linked { n, links: noted(&links, random) }
+}
+
+/// Any pause; the shortest, the longest, and those with one bit are met often.
+pub fn any_pause(random: &mut Random) -> usize {
+    match random.below(8) {
+        0 => 0,
+        1 => LONGEST_PAUSE,
+        2 => 1 << random.below(12),
+        _ => random.between(0, LONGEST_PAUSE),
+    }
+}
+
+/// The links, each with a pause: none at all, as in older logs, a few minutes, or any.
+fn paused(links: &[Link], random: &mut Random) -> Vec<Noted> {
+    let most = random.weighted(&[(0, 3), (3, 2), (LONGEST_PAUSE, 3)]);
+    let mut pause = || if most == LONGEST_PAUSE { any_pause(random) } else { random.between(0, most) };
+    links.iter().map(|&(from, to)| (from, to, pause())).collect()
+}
+
+/// The links with pauses. In one of four logs some links are given again, with other pauses, as far as there is room.
+pub fn noted(links: &[Link], random: &mut Random) -> Vec<Noted> {
+    let mut noted = paused(links, random);
+    if links.is_empty() || random.chance(3, 4) {
+        return noted;
+    }
+    for _ in 0..random.between(1, 8) {
+        let (from, to) = *random.pick(links);
+        for _ in 0..random.between(2, 4).min(MOST_LINKS.saturating_sub(noted.len())) {
+            noted.insert(random.below(noted.len() + 1), (from, to, any_pause(random)));
+        }
+    }
+    noted
 }
 
 fn tiny(n: usize, random: &mut Random) -> Vec<Link> {
@@ -267,18 +312,23 @@ fn ceilings(random: &mut Random) -> Vec<u32> {
     if random.chance(1, 2) {
         let n = *random.pick(&[199, 200, 201, 202, 255, 256, LARGEST as usize]);
         let count = random.between(0, 20);
-        return log(n, &forward(n.min(300), count, random), 4, random);
+        let links = forward(n.min(300), count, random);
+        return log(n, &noted(&links, random), 4, random);
     }
     let n = random.between(1, MOST_EPISODES);
     let count = *random.pick(&[4_095, 4_096, 4_097, 4_097, 4_097, 4_098, 4_400]);
     let splits = *random.pick(&[0, 1, 16]);
     let mut links = forward(n.max(2), count, random);
     links.sort_unstable();
-    let mut words = log(n, &links, splits, random);
-    // A number that is too large beside the last to word that is allowed: question 7 is asked of a word before 8.
+    let mut words = log(n, &paused(&links, random), splits, random);
+    // An episode that is too high beside the last to word that is allowed: question 7 is asked of a word before 8.
     if random.chance(1, 4) {
         let place = words.len() - 1 - random.between(1, 6);
-        words[place] = words[place] & !LARGEST | random.between(n, 300) as u32;
+        let high = random.between(n, 300);
+        words[place] = match kind(words[place]) {
+            TO => to_word(high, pause(words[place])),
+            kind => word(kind, high),
+        };
     }
     words
 }
@@ -289,7 +339,8 @@ fn scrap(random: &mut Random) -> Vec<u32> {
     let mut words: Vec<u32> = (0..count)
         .map(|_| {
             let kind = random.weighted(&[(HEAD, 1), (FROM, 6), (TO, 9), (END, 1), (0, 1), (9, 1)]);
-            word(kind, random.below(4))
+            let paused = random.chance(1, if kind == TO { 2 } else { 16 });
+            word(kind, random.below(4)) | if paused { word(0, any_pause(random) << 16) } else { 0 }
         })
         .collect();
     if let [first, .., last] = &mut words[..] {

@@ -10,7 +10,7 @@ use crate::reference::{Graph, Subject, in_order};
 use crate::rounds::{again, copied, copy_lengths, reported};
 use crate::services::{ReadAnswer, Services};
 use crate::shapes::{self, Linked};
-use crate::words::{Link, hex, log};
+use crate::words::{Link, Noted, hex, log};
 
 /// A log that passes with its ways, and what the first calls on it gave.
 struct Given {
@@ -49,7 +49,8 @@ pub fn properties<S: Services>(caller: &mut Caller<S>, random: &mut Random) -> C
     Err(Box::new(Disagreement { service: "properties", found: found.0, lengths: String::new(), words: given.log.words }))
 }
 
-fn trimmed<S: Services>(caller: &mut Caller<S>, subject: &Subject, random: &mut Random) -> Checked<Trimmed> {
+/// A trimmed copy call on buffers that suffice.
+pub fn trimmed<S: Services>(caller: &mut Caller<S>, subject: &Subject, random: &mut Random) -> Checked<Trimmed> {
     let lengths = copy_lengths(subject, random);
     caller.trimmed_copy(subject, lengths, random)
 }
@@ -129,11 +130,12 @@ impl Given {
         (0..self.graph.n).any(|between| self.ways[from][between] && self.ways[between][to])
     }
 
-    /// Other links with the same ways: some that are implied left out, some of the ways added, and repeats.
+    /// Other links with the same ways: some that are implied left out, some of the ways added, repeats, and other
+    /// pauses.
     fn with_same_ways(&self, random: &mut Random) -> Linked {
         let n = self.graph.n;
-        let stays = |link: &&Link| !self.implied(**link) || random.chance(1, 2);
-        let mut links: Vec<Link> = self.linked.links.iter().filter(stays).copied().collect();
+        let given = self.linked.links.iter().map(|&(from, to, _)| (from, to));
+        let mut links: Vec<Link> = given.filter(|&link| !self.implied(link) || random.chance(1, 2)).collect();
         for _ in 0..random.between(0, 20).min(4_096 - links.len()) {
             let from = random.below(n.max(1));
             let ends: Vec<usize> = (0..n).filter(|&to| self.ways[from][to]).collect();
@@ -141,7 +143,7 @@ impl Given {
                 links.push((from, *random.pick(&ends)));
             }
         }
-        again(&Linked { n, links }, random)
+        again(&Linked { n, links: shapes::noted(&links, random) }, random)
     }
 
     /// The log with one link more, between episodes of which none has a way to the other.
@@ -151,9 +153,9 @@ impl Given {
             return None;
         }
         let mut tries = (0..16).map(|_| (random.below(n), random.below(n)));
-        let link = tries.find(|&(from, to)| from != to && !self.ways[from][to] && !self.ways[to][from])?;
+        let (from, to) = tries.find(|&(from, to)| from != to && !self.ways[from][to] && !self.ways[to][from])?;
         let mut links = self.linked.links.clone();
-        links.insert(random.below(links.len() + 1), link);
+        links.insert(random.below(links.len() + 1), (from, to, shapes::any_pause(random)));
         Some(Linked { n, links })
     }
 
@@ -164,7 +166,8 @@ impl Given {
             return None;
         }
         let out = *random.pick(&stay);
-        let links = self.linked.links.iter().copied().filter(|&link| link != out).collect();
+        let other = |&(from, to, _): &Noted| (from, to) != out;
+        let links = self.linked.links.iter().copied().filter(other).collect();
         Some(Linked { n: self.graph.n, links })
     }
 }

@@ -1,7 +1,6 @@
-//! The graph of a log that passes: its links, and the ways that a search depth first finds.
+//! The graph of a log that passes: its links, and the ways that a search depth first finds. It has no pauses.
 
-use crate::words::{END, HEAD};
-use crate::words::{FROM, Link, TO, kind, number, word};
+use crate::words::{FROM, Link, Noted, TO, episode, kind, number, pause};
 
 pub struct Graph {
     pub n: usize,
@@ -11,14 +10,14 @@ pub struct Graph {
     pub next: Vec<Vec<usize>>,
 }
 
-/// The links of a log that passes questions 1 to 10, as it gives them: with repeats, in its order.
-pub fn links(log: &[u32]) -> Vec<Link> {
+/// The links of a log that passes questions 1 to 10, as it gives them: with their pauses and repeats, in its order.
+pub fn noted(log: &[u32]) -> Vec<Noted> {
     let mut links = Vec::new();
     let mut from = 0;
     for &given in &log[1..log.len() - 1] {
         match kind(given) {
             FROM => from = number(given),
-            TO => links.push((from, number(given))),
+            TO => links.push((from, episode(given), pause(given))),
             _ => unreachable!("the log passes"),
         }
     }
@@ -38,7 +37,7 @@ impl Graph {
 
     /// The graph of a log that passes questions 1 to 10.
     pub fn of(log: &[u32]) -> Graph {
-        Graph::new(number(log[0]), links(log))
+        Graph::new(number(log[0]), noted(log).iter().map(|&(from, to, _)| (from, to)).collect())
     }
 
     pub fn linked(&self, from: usize, to: usize) -> bool {
@@ -90,18 +89,5 @@ impl Graph {
         }
         let kept = self.links.iter().filter(|link| !marked[link.0] && !marked[link.1]);
         Graph::new(n, kept.map(|&(from, to)| (names[from], names[to])).collect())
-    }
-
-    /// The fair copy, from its definition.
-    pub fn fair_copy(&self) -> Vec<u32> {
-        let mut words = vec![word(HEAD, self.n)];
-        for (from, next) in self.next.iter().enumerate() {
-            if !next.is_empty() {
-                words.push(word(FROM, from));
-                words.extend(next.iter().map(|&to| word(TO, to)));
-            }
-        }
-        words.push(word(END, self.links.len()));
-        words
     }
 }

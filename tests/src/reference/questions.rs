@@ -1,6 +1,6 @@
 //! The questions put to a log, to the lent buffers, to a report's words and to the program's bytes.
 
-use crate::words::{APART, END, FROM, HEAD, LARGEST, STEP, THREAD, TO, WIDTH, kind, number, word};
+use crate::words::{APART, END, FROM, HEAD, LARGEST, STEP, THREAD, TO, WIDTH, episode, kind, number, word};
 
 /// A refusal: its number and its place.
 #[derive(Clone, Copy, Debug, PartialEq, Eq)]
@@ -47,7 +47,8 @@ pub fn in_order(log: &[u32]) -> Result<(usize, usize), Refusal> {
         if is_from && (place + 1 == last || kind(log[place + 1]) != TO) {
             return no(6, place);
         }
-        if number(log[place]) >= n {
+        // Of a to word the later episode alone is looked at, of a from word the whole number.
+        if (is_to && episode(log[place]) >= n) || (is_from && number(log[place]) >= n) {
             return no(7, place);
         }
         if is_to && links == MOST_LINKS {

@@ -1,8 +1,11 @@
 //! A log with all that is expected of calls on it.
 
+use super::copies::{by_pairs, by_sorting, copy_words};
 use super::furthest::{FEW, FEWER, by_flow, by_subsets, cover_by_unions, is_furthest};
 use super::trimming::{by_search, by_threads};
-use super::{Graph, Refusal, in_order};
+use super::{Graph, Refusal, in_order, noted};
+use crate::counts::Pauses;
+use crate::words::{Noted, older};
 use std::cell::OnceCell;
 
 pub struct Subject {
@@ -12,22 +15,28 @@ pub struct Subject {
     pub passed: Option<Passed>,
 }
 
-/// The graph of a log that passes. What calls on it have to show is worked out when it is first asked for.
+/// The links and the graph of a log that passes. What calls on it have to show is worked out when it is first asked for.
 pub struct Passed {
+    noted: Vec<Noted>,
     pub graph: Graph,
     has_loop: OnceCell<bool>,
     furthest: OnceCell<Vec<usize>>,
+    fair: OnceCell<Vec<u32>>,
     trimmed: OnceCell<Vec<u32>>,
+    pauses: OnceCell<Vec<Pauses>>,
 }
 
 impl Subject {
     pub fn new(words: Vec<u32>) -> Subject {
         let reading = in_order(&words);
         let passed = reading.ok().map(|_| Passed {
+            noted: noted(&words),
             graph: Graph::of(&words),
             has_loop: OnceCell::new(),
             furthest: OnceCell::new(),
+            fair: OnceCell::new(),
             trimmed: OnceCell::new(),
+            pauses: OnceCell::new(),
         });
         Subject { words, reading, passed }
     }
@@ -41,6 +50,16 @@ impl Passed {
     /// The furthest apart set, whose size is the width; none where there is a loop.
     pub fn furthest(&self) -> Option<&[usize]> {
         (!self.has_loop()).then(|| &self.furthest.get_or_init(|| furthest(&self.graph))[..])
+    }
+
+    /// The fair copy.
+    pub fn fair_copy(&self) -> &[u32] {
+        self.fair.get_or_init(|| fair_copy(self.graph.n, &self.noted))
+    }
+
+    /// The kinds of pauses that the log has, for the counts.
+    pub fn pauses(&self) -> &[Pauses] {
+        self.pauses.get_or_init(|| Pauses::met(&self.noted))
     }
 
     /// The trimmed copy; none where there is a loop.
@@ -63,11 +82,20 @@ fn furthest(graph: &Graph) -> Vec<usize> {
     furthest
 }
 
-/// The trimmed copy: the fair copy of the links that stay.
+/// The fair copy: each link with its least pause.
+fn fair_copy(n: usize, noted: &[Noted]) -> Vec<u32> {
+    let links = by_sorting(noted);
+    if n <= FEW {
+        assert_eq!(links, by_pairs(n, noted), "the reference: sorting and pairs differ");
+    }
+    copy_words(n, &links)
+}
+
+/// The trimmed copy: the links that stay, without a pause.
 fn trimmed_copy(graph: &Graph) -> Vec<u32> {
     let stay = by_search(graph);
     if graph.n <= FEW {
         assert_eq!(stay, by_threads(graph), "the reference: search and threads differ");
     }
-    Graph::new(graph.n, stay).fair_copy()
+    copy_words(graph.n, &older(&stay))
 }
