@@ -29,6 +29,11 @@ static const struct {
 /* 3 episodes and the links 0-1, 0-2 and 1-2. The path 0 1 2 stands beside the link 0-2. */
 static const uint32_t beside[] = {0x10000003, 0x20000000, 0x30000001, 0x30000002, 0x20000001, 0x30000002, 0xF0000003};
 
+/* 3 episodes and the link 0-2 with a pause of 20 minutes, 0-1 with one of 90 and again with one of 45. */
+static const uint32_t paused[] = {
+    0x10000003, 0x20000000, ZOHAPY_TO_WORD(2, 20), ZOHAPY_TO_WORD(1, 90), ZOHAPY_TO_WORD(1, 45), 0xF0000003,
+};
+
 static const uint32_t loop[] = {0x10000002, 0x20000000, 0x30000001, 0x20000001, 0x30000000, 0xF0000002};
 
 static uint32_t out[ZOHAPY_REPORT_WORDS(5)];
@@ -52,6 +57,17 @@ static void print_words(const char *name, const uint32_t *words, size_t count) {
     for (size_t i = 0; i < count; i++)
         printf(" %08" PRIX32, words[i]);
     printf("\n");
+}
+
+/* Prints a line for each link of a log that has passed the reading, with its pause. */
+static void print_links(const uint32_t *log, size_t log_words) {
+    uint32_t from = 0;
+    for (size_t i = 1; i + 1 < log_words; i++) {
+        if (log[i] >> 28 == 2)
+            from = number_of(log[i]);
+        else
+            printf("link %" PRIu32 "-%" PRIu32 " pause %" PRIu32 "\n", from, ZOHAPY_EPISODE(log[i]), ZOHAPY_PAUSE(log[i]));
+    }
 }
 
 /* Prints a refusal, and checks its number. */
@@ -84,6 +100,16 @@ int main(void) {
         fprintf(stderr, "a copy was meant\n");
         return 1;
     }
+    print_words("copy", copied, copy.value);
+
+    /* Of a link that is given twice the fair copy has the least pause, and its to words rise by episode. */
+    reading = zohapy_read(paused, WORDS(paused));
+    copy = zohapy_fair_copy(paused, WORDS(paused), copied, WORDS(copied), work, WORDS(work));
+    if (reading.number != 0 || copy.number != 0) {
+        fprintf(stderr, "a copy was meant\n");
+        return 1;
+    }
+    print_links(paused, WORDS(paused));
     print_words("copy", copied, copy.value);
 
     /* The trimmed copy leaves out 0-2. */

@@ -3,7 +3,7 @@
 
 use std::error::Error;
 
-use zohapy::{Failure, Outcome, Refusal, Report, TrimOutcome, WORK_WORDS};
+use zohapy::{Failure, Link, Outcome, Refusal, Report, TrimOutcome, WORK_WORDS};
 
 const WHOLE: [u32; 6] = [0x1000_0005, 0x2000_0000, 0x3000_0001, 0x2000_0002, 0x3000_0003, 0xF000_0002];
 
@@ -23,6 +23,16 @@ const REFUSED: [&[u32]; 9] = [
 /// 3 episodes and the links 0-1, 0-2 and 1-2. The path 0 1 2 stands beside the link 0-2.
 const BESIDE: [u32; 7] = [0x1000_0003, 0x2000_0000, 0x3000_0001, 0x3000_0002, 0x2000_0001, 0x3000_0002, 0xF000_0003];
 
+/// 3 episodes and the link 0-2 with a pause of 20 minutes, 0-1 with one of 90 and again with one of 45.
+const PAUSED: [u32; 6] = [
+    0x1000_0003,
+    0x2000_0000,
+    zohapy::to_word(2, 20).unwrap(),
+    zohapy::to_word(1, 90).unwrap(),
+    zohapy::to_word(1, 45).unwrap(),
+    0xF000_0003,
+];
+
 const LOOP: [u32; 6] = [0x1000_0002, 0x2000_0000, 0x3000_0001, 0x2000_0001, 0x3000_0000, 0xF000_0002];
 
 fn main() -> Result<(), Box<dyn Error>> {
@@ -41,6 +51,12 @@ fn main() -> Result<(), Box<dyn Error>> {
     let mut out = vec![0; zohapy::report_words(5)];
     let mut work = vec![0; WORK_WORDS];
     let count = zohapy::fair_copy(&WHOLE, &mut out, &mut work)?;
+    print_words("copy", &out[..count]);
+    // Of a link that is given twice the fair copy has the least pause, and its to words rise by episode.
+    for Link { from, to, pause } in zohapy::links(&PAUSED)? {
+        println!("link {from}-{to} pause {pause}");
+    }
+    let count = zohapy::fair_copy(&PAUSED, &mut out, &mut work)?;
     print_words("copy", &out[..count]);
     // The trimmed copy leaves out 0-2.
     match zohapy::trimmed_copy(&BESIDE, &mut out, &mut work) {

@@ -1,7 +1,8 @@
 //! The sleeper report for Rust programs: the five services of the proved library, on lent buffers.
 //!
-//! A log is a list of 32-bit words; a word's top 4 bits are its kind and its low 28 bits its number. Each call ends, on any log
-//! and any buffers, with an answer or one numbered refusal, and what it leaves in every word of the buffers is fixed:
+//! A log is a list of 32-bit words; a word's top 4 bits are its kind and its low 28 bits its number. The number of a to word
+//! holds an episode and a pause: [`links`] gives both for each link of a log. Each call ends, on any log and any buffers, with an
+//! answer or one numbered refusal, and what it leaves in every word of the buffers is fixed:
 //!
 //! - after a refusal 1 to 12 no buffer has changed;
 //! - otherwise the output begins with the report, the loop or the copy and is unchanged behind it, and the first [`WORK_WORDS`]
@@ -48,9 +49,44 @@ pub const fn kind(word: u32) -> u32 {
     word >> 28
 }
 
-/// The number of a word: its low 28 bits.
+/// The number of a word: its low 28 bits. That of a to word holds two figures, its [`episode`] and its [`pause`].
 pub const fn number(word: u32) -> u32 {
     word & 0x0FFF_FFFF
+}
+
+/// The episode of a to word: its bits 0 to 15.
+pub const fn episode(word: u32) -> u32 {
+    word & 0xFFFF
+}
+
+/// The pause of a to word, in minutes: its bits 16 to 27.
+pub const fn pause(word: u32) -> u32 {
+    number(word) >> 16
+}
+
+/// The to word of an episode and a pause in minutes; none where the episode is not below 65,536 or the pause not below 4,096.
+///
+/// ```
+/// use zohapy::{episode, pause, to_word};
+///
+/// const WORD: u32 = to_word(7, 45).unwrap();
+/// assert_eq!(WORD, 0x302D_0007);
+/// assert_eq!((episode(WORD), pause(WORD)), (7, 45));
+/// assert_eq!(to_word(7, 4096), None);
+/// ```
+pub const fn to_word(episode: u32, pause: u32) -> Option<u32> {
+    if episode < 1 << 16 && pause < 1 << 12 { Some(0x3000_0000 | pause << 16 | episode) } else { None }
+}
+
+/// A link as a to word gives it.
+#[derive(Clone, Copy, Debug, PartialEq, Eq, PartialOrd, Ord, Hash)]
+pub struct Link {
+    /// The earlier episode, that of the from word before.
+    pub from: u32,
+    /// The later episode.
+    pub to: u32,
+    /// The pause between the two, in minutes.
+    pub pause: u32,
 }
 
 /// A refusal: its number and its place.
@@ -168,13 +204,36 @@ pub fn read(log: &[u32]) -> Result<Reading, Refusal> {
     }
 }
 
+/// The links of a log in the order in which it gives them, repeats included; or its refusal by [`read`].
+///
+/// ```
+/// use zohapy::{Link, links};
+///
+/// let log = [0x1000_0003, 0x2000_0000, 0x3000_0001, 0x302D_0002, 0xF000_0002]; // 0-1, and 0-2 after 45 minutes
+/// assert_eq!(links(&log)?, [Link { from: 0, to: 1, pause: 0 }, Link { from: 0, to: 2, pause: 45 }]);
+/// # Ok::<(), zohapy::Refusal>(())
+/// ```
+pub fn links(log: &[u32]) -> Result<Vec<Link>, Refusal> {
+    let mut links = Vec::with_capacity(read(log)?.links);
+    let mut from = 0;
+    // The log has passed, so that these are from words and to words, a from word first.
+    for &word in &log[1..log.len() - 1] {
+        match kind(word) {
+            2 => from = number(word),
+            _ => links.push(Link { from, to: episode(word), pause: pause(word) }),
+        }
+    }
+    Ok(links)
+}
+
 /// A call of one of the library's services that write to a lent output.
 fn call(service: library::Lending, log: &[u32], out: &mut [u32], work: &mut [u32]) -> library::Answer {
     // SAFETY: the pointers and the lengths are those of three slices, no two of which share a word; the call stays within them.
     unsafe { service(log.as_ptr(), log.len(), out.as_mut_ptr(), out.len(), work.as_mut_ptr(), work.len()) }
 }
 
-/// The report on a log, or a loop of it. For a report lend [`report_words`] output words and [`WORK_WORDS`] work words.
+/// The report on a log, or a loop of it; pauses change neither. For a report lend [`report_words`] output words and
+/// [`WORK_WORDS`] work words.
 pub fn report(log: &[u32], out: &mut [u32], work: &mut [u32]) -> Outcome {
     let answer = call(library::zohapy_report, log, out, work);
     match answer.number {
@@ -184,7 +243,8 @@ pub fn report(log: &[u32], out: &mut [u32], work: &mut [u32]) -> Outcome {
     }
 }
 
-/// The fair copy of a log; the answer is its count of words. Lend [`copy_words`] output words and [`WORK_WORDS`] work words.
+/// The fair copy of a log: each link once, with its least pause, its to words rising by episode. The answer is its count of words.
+/// Lend [`copy_words`] output words and [`WORK_WORDS`] work words.
 pub fn fair_copy(log: &[u32], out: &mut [u32], work: &mut [u32]) -> Result<usize, Refusal> {
     let answer = call(library::zohapy_fair_copy, log, out, work);
     match answer.number {
@@ -193,7 +253,7 @@ pub fn fair_copy(log: &[u32], out: &mut [u32], work: &mut [u32]) -> Result<usize
     }
 }
 
-/// The trimmed copy of a log, or a loop of it: only those links A-B for which no other path leads from A to B. Lend
+/// The trimmed copy of a log, or a loop of it: only those links A-B for which no other path leads from A to B, with pause 0. Lend
 /// [`copy_words`] output words and [`WORK_WORDS`] work words.
 pub fn trimmed_copy(log: &[u32], out: &mut [u32], work: &mut [u32]) -> TrimOutcome {
     let answer = call(library::zohapy_trimmed_copy, log, out, work);
