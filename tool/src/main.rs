@@ -28,10 +28,10 @@ usage: zohapy-tool COMMAND [FILE]
 
 Without FILE, or where it is -, standard input is read. The answer goes to standard output.
 
-The text form has a line `episodes N`, then a line `A-B` for each link. Blank lines and lines that start with # are passed over.
-`bytes` does not ask whether the log would be accepted. `text` asks questions 1 to 10, and `picture` also shows a loop.
-The trimmed copy has only those links A-B for which no other path leads from A to B. A log with a loop has none: `trim` refuses
-it and prints the loop too.
+The text form has a line `episodes N`, then a line for each link: `A-B`, or `A-B M` with its pause of M minutes. Blank lines and
+lines that start with # are passed over. `bytes` does not ask whether the log would be accepted. `text` asks questions 1 to 10, and
+`picture` also shows a loop. The trimmed copy has only those links A-B for which no other path leads from A to B, without pauses.
+A log with a loop has none: `trim` refuses it and prints the loop too.
 
 exit status: 0; 1 where the log is refused, with `refused N at P` on standard error; 2 on any other trouble.
 ";
@@ -159,9 +159,20 @@ mod tests {
     }
 
     #[test]
+    fn pauses_from_text_to_bytes_to_text() {
+        let given = &b"episodes 5\n0-1 45\n0-2\n0-1 4095\n3-4 1\n"[..];
+        let made = bytes(&mut { given }).expect("a text form");
+        assert_eq!(text(&mut &made[..]), Ok(given.to_vec()));
+        let made = bytes(&mut &b"episodes 5\n0-1 0\n2-3 0\n"[..]).expect("a text form");
+        assert_eq!(text(&mut &made[..]), Ok(b"episodes 5\n0-1\n2-3\n".to_vec()));
+    }
+
+    #[test]
     fn a_wrong_text_has_status_2() {
-        let trouble = bytes(&mut &b"episodes 5\n0-\xFF\n"[..]).expect_err("the second line is no link");
-        assert_eq!((trouble.status, trouble.message.starts_with("line 2: expected a link")), (2, true));
+        for wrong in [&b"episodes 5\n0-\xFF\n"[..], b"episodes 5\n0-1 4096\n", b"episodes 5\n0-1 2 3\n"] {
+            let trouble = bytes(&mut { wrong }).expect_err("the second line is no link");
+            assert_eq!((trouble.status, trouble.message.starts_with("line 2: expected a link")), (2, true));
+        }
     }
 
     #[test]
@@ -192,6 +203,22 @@ mod tests {
         assert_eq!(trimmed, bytes_from_words(&words));
         assert_eq!(text(&mut &trimmed[..]), Ok(b"episodes 4\n0-1\n1-2\n2-3\n".to_vec()));
         assert_eq!(trim(&mut &trimmed[..]), Ok(trimmed));
+    }
+
+    #[test]
+    fn a_trimmed_copy_has_no_pauses() {
+        let made = bytes(&mut &b"episodes 4\n2-3 40\n0-3\n1-2 5\n0-1 15\n0-2 20\n0-1 10\n"[..]).expect("a text form");
+        let trimmed = trim(&mut &made[..]).expect("the log has no loop");
+        assert_eq!(text(&mut &trimmed[..]), Ok(b"episodes 4\n0-1\n1-2\n2-3\n".to_vec()));
+    }
+
+    #[test]
+    fn a_picture_has_the_pauses() {
+        let made = bytes(&mut &b"episodes 2\n0-1 45\n0-1 40\n"[..]).expect("a text form");
+        let svg = String::from_utf8(picture(&mut &made[..]).expect("the log has a report")).expect("text");
+        assert!(svg.contains(">40</text>") && !svg.contains(">45</text>"));
+        let made = bytes(&mut &b"episodes 2\n0-1 45\n1-0\n"[..]).expect("a text form");
+        assert!(String::from_utf8(picture(&mut &made[..]).expect("a picture of the loop")).expect("text").contains(">45</text>"));
     }
 
     #[test]

@@ -1,9 +1,9 @@
 //! SVG pictures of a report and of a loop. Episodes stand from left to right by number.
 
 use std::cmp::Ordering;
-use std::collections::BTreeSet;
+use std::collections::{BTreeMap, BTreeSet};
 
-use zohapy::Report;
+use zohapy::{Link, Report};
 
 use crate::log::Log;
 
@@ -24,10 +24,10 @@ const RING: usize = 9;
 pub fn of_report(log: &Log, report: &Report) -> String {
     let on_threads: BTreeSet<(u32, u32)> =
         report.threads.iter().flat_map(|steps| steps.windows(2)).map(|pair| (pair[0], pair[1])).collect();
-    let others: BTreeSet<(u32, u32)> = log.links.iter().copied().filter(|link| !on_threads.contains(link)).collect();
+    let others: BTreeSet<(u32, u32)> = pairs(log).filter(|link| !on_threads.contains(link)).collect();
     let [episodes, links] = [counted(report.episodes, "episode"), counted(report.links, "link")];
 
-    let mut picture = Picture::new(report.episodes);
+    let mut picture = Picture::new(log);
     picture.heading(&format!("Sleeper report: {episodes}, {links}, width {}", report.width), &report.to_string());
     if report.width == 0 {
         picture.note("There is no episode, so there need be no sleeper.");
@@ -49,6 +49,7 @@ pub fn of_report(log: &Log, report: &Report) -> String {
     if !others.is_empty() {
         picture.note("arcs: the log's other links, above the episodes to a larger number, below to a smaller one.");
     }
+    picture.note_on_pauses();
     picture.axis(&others, &[], &report.apart);
     for (i, steps) in report.threads.iter().enumerate() {
         picture.thread(i, steps, report.apart[i]);
@@ -61,7 +62,7 @@ pub fn of_report(log: &Log, report: &Report) -> String {
 pub fn of_loop(log: &Log, episodes: &[u32]) -> String {
     let first = episodes[0];
     let links: Vec<(u32, u32)> = episodes.iter().copied().zip(episodes[1..].iter().copied().chain([first])).collect();
-    let others: BTreeSet<(u32, u32)> = log.links.iter().copied().filter(|link| !links.contains(link)).collect();
+    let others: BTreeSet<(u32, u32)> = pairs(log).filter(|link| !links.contains(link)).collect();
     let length = counted(episodes.len(), "episode");
     let reason = match episodes.len() {
         1 => format!(
@@ -74,13 +75,63 @@ pub fn of_loop(log: &Log, episodes: &[u32]) -> String {
         ),
     };
 
-    let mut picture = Picture::new(log.episodes as usize);
+    let mut picture = Picture::new(log);
     let lines = format!("refused 13 at {}\nloop {}", episodes.len(), listed(episodes));
     picture.heading(&format!("No report: the log has a loop of {length}"), &lines);
     picture.note(&format!("loop: {reason}"));
     picture.note("arcs: the log's links, above the episodes to a larger number, below to a smaller one.");
+    picture.note_on_pauses();
     picture.axis(&others, &links, episodes);
     picture.finished()
+}
+
+/// The links of a log without their pauses.
+fn pairs(log: &Log) -> impl Iterator<Item = (u32, u32)> {
+    log.links.iter().map(|link| (link.from, link.to))
+}
+
+/// The least pause of each link of a log, where it is not 0.
+fn least_pauses(log: &Log) -> BTreeMap<(u32, u32), u32> {
+    let mut least = BTreeMap::new();
+    for &Link { from, to, pause } in &log.links {
+        let least = least.entry((from, to)).or_insert(pause);
+        *least = pause.min(*least);
+    }
+    least.retain(|_, pause| *pause > 0);
+    least
+}
+
+/// The room that figures or a circle take.
+#[derive(Clone, Copy, Debug, PartialEq, Eq)]
+struct Area {
+    left: usize,
+    right: usize,
+    top: usize,
+    bottom: usize,
+}
+
+impl Area {
+    /// That of a number whose figures stand on `y`, with its middle at `x`. Few fonts have figures that are wider or higher.
+    fn of_number(number: u32, x: usize, y: usize, size: usize) -> Area {
+        let half = (number.to_string().len() * size * 7).div_ceil(20);
+        Area { left: x - half, right: x + half, top: y - (size * 3).div_ceil(4), bottom: y }
+    }
+
+    /// That of a circle.
+    fn of_circle(x: usize, y: usize, radius: usize) -> Area {
+        Area { left: x - radius, right: x + radius, top: y - radius, bottom: y + radius }
+    }
+
+    fn overlaps(&self, other: &Area) -> bool {
+        self.left < other.right && other.left < self.right && self.top < other.bottom && other.top < self.bottom
+    }
+}
+
+/// A pause that is to be written: its minutes, and where.
+struct Wanted {
+    pause: u32,
+    x: usize,
+    y: usize,
 }
 
 /// A picture that grows downwards.
@@ -96,16 +147,34 @@ struct Picture {
     y: usize,
     /// Where the row of all episodes stands.
     axis_at: usize,
+    /// The least pauses that are not 0, those that are to be written, and what they must not overlap.
+    pauses: BTreeMap<(u32, u32), u32>,
+    wanted: Vec<Wanted>,
+    taken: Vec<Area>,
     head: String,
     body: String,
 }
 
 impl Picture {
-    fn new(episodes: usize) -> Picture {
+    fn new(log: &Log) -> Picture {
+        let episodes = log.episodes as usize;
         let step = (900 / episodes.max(1)).clamp(24, 64);
         let width = (LEFT + step * episodes.saturating_sub(1) + RIGHT).max(LEAST_WIDTH);
         let size = if step < 26 { 10 } else { 12 };
-        Picture { episodes, step, size, width, longest: 0, y: 0, axis_at: 0, head: String::new(), body: String::new() }
+        Picture {
+            episodes,
+            step,
+            size,
+            width,
+            longest: 0,
+            y: 0,
+            axis_at: 0,
+            pauses: least_pauses(log),
+            wanted: Vec::new(),
+            taken: Vec::new(),
+            head: String::new(),
+            body: String::new(),
+        }
     }
 
     /// Where an episode stands.
@@ -150,6 +219,13 @@ impl Picture {
         self.put(&format!("<text x=\"12\" y=\"{}\" font-size=\"14\">{line}</text>", self.y));
     }
 
+    /// What the figures beside links are, where there are any.
+    fn note_on_pauses(&mut self) {
+        if !self.pauses.is_empty() {
+            self.note("pauses: in minutes, beside a link, where its least pause is not 0 and there is room.");
+        }
+    }
+
     /// The row of all episodes, with arcs and arrows above and below it. Marked episodes have bold numbers, and rings where there
     /// are arrows.
     fn axis(&mut self, arcs: &BTreeSet<(u32, u32)>, arrows: &[(u32, u32)], marked: &[u32]) {
@@ -181,10 +257,13 @@ impl Picture {
             }
             self.put("</g>");
         }
+        // Those of arrows come first, and so find room first.
+        arrows.iter().for_each(|link| self.arc_pause(*link, y - RING - 2, under));
+        arcs.iter().for_each(|link| self.arc_pause(*link, y - 5, under));
         self.row_names("episodes", y);
         for episode in 0..self.episodes as u32 {
             let bold = marked.contains(&episode);
-            self.put(&format!("<circle cx=\"{}\" cy=\"{y}\" r=\"3\" fill=\"#333333\"/>", self.x(episode)));
+            self.dot(self.x(episode), y, 3, "#333333");
             self.number(episode, y + 11 + self.size, bold);
             if bold && !arrows.is_empty() {
                 self.ring(episode, y);
@@ -219,8 +298,15 @@ impl Picture {
         self.put(&format!("<path d=\"{path}\"/>"));
     }
 
+    /// The pause of an arc, beyond its middle.
+    fn arc_pause(&mut self, (from, to): (u32, u32), over: usize, under: usize) {
+        let (middle, height) = ((self.x(from) + self.x(to)) / 2, self.arc_height((from, to)));
+        let y = if from <= to { over - height - 3 } else { under + height + 1 + self.size };
+        self.want_pause((from, to), middle, y);
+    }
+
     /// The row of a thread: a line through its steps, each with a dot and its number, and a ring round its member of the apart
-    /// set. Where a step goes to a smaller number the line goes down.
+    /// set. Where a step goes to a smaller number the line goes down. The pauses stand below the line.
     fn thread(&mut self, i: usize, steps: &[u32], member: u32) {
         let colour = COLOURS[i % COLOURS.len()];
         let mut y = self.y + ROW;
@@ -237,9 +323,12 @@ impl Picture {
             "<polyline points=\"{}\" fill=\"none\" stroke=\"{colour}\" stroke-width=\"3\" stroke-linejoin=\"round\"/>",
             points.join(" ")
         ));
+        for (pair, y) in steps.windows(2).zip(places.windows(2)) {
+            self.want_pause((pair[0], pair[1]), (self.x(pair[0]) + self.x(pair[1])) / 2, (y[0] + y[1]) / 2 + 2 + self.size);
+        }
         for (step, y) in steps.iter().zip(places) {
             let x = self.x(*step);
-            self.put(&format!("<circle cx=\"{x}\" cy=\"{y}\" r=\"5\" fill=\"{colour}\"/>"));
+            self.dot(x, y, 5, colour);
             if *step == member {
                 self.ring(*step, y);
             }
@@ -257,8 +346,14 @@ impl Picture {
         }
     }
 
+    fn dot(&mut self, x: usize, y: usize, radius: usize, colour: &str) {
+        self.put(&format!("<circle cx=\"{x}\" cy=\"{y}\" r=\"{radius}\" fill=\"{colour}\"/>"));
+        self.taken.push(Area::of_circle(x, y, radius));
+    }
+
     /// The number of an episode at its place, with white round its figures.
     fn number(&mut self, episode: u32, y: usize, bold: bool) {
+        self.taken.push(Area::of_number(episode, self.x(episode), y, self.size));
         let weight = if bold { " font-weight=\"bold\"" } else { "" };
         self.put(&format!(
             "<text x=\"{}\" y=\"{y}\" font-size=\"{}\" text-anchor=\"middle\" stroke=\"#FFFFFF\" stroke-width=\"3\" \
@@ -269,10 +364,37 @@ impl Picture {
     }
 
     fn ring(&mut self, episode: u32, y: usize) {
+        self.taken.push(Area::of_circle(self.x(episode), y, RING + 1));
         self.put(&format!(
             "<circle class=\"ring\" cx=\"{}\" cy=\"{y}\" r=\"{RING}\" fill=\"none\" stroke=\"#000000\" stroke-width=\"2\"/>",
             self.x(episode)
         ));
+    }
+
+    /// Keeps the pause of a link, where it is not 0, to be written when all else stands.
+    fn want_pause(&mut self, link: (u32, u32), x: usize, y: usize) {
+        if let Some(&pause) = self.pauses.get(&link) {
+            self.wanted.push(Wanted { pause, x, y });
+        }
+    }
+
+    /// The pauses, each where it overlaps no other figures and no circle.
+    fn write_pauses(&mut self) {
+        let size = self.size - 2;
+        let mut texts = String::new();
+        for Wanted { pause, x, y } in std::mem::take(&mut self.wanted) {
+            let area = Area::of_number(pause, x, y, size);
+            if !self.taken.iter().any(|taken| taken.overlaps(&area)) {
+                self.taken.push(area);
+                texts += &format!("<text x=\"{x}\" y=\"{y}\">{pause}</text>\n");
+            }
+        }
+        if !texts.is_empty() {
+            self.put(&format!(
+                "<g class=\"pauses\" font-size=\"{size}\" font-style=\"italic\" text-anchor=\"middle\" fill=\"#555555\" \
+                 stroke=\"#FFFFFF\" stroke-width=\"3\" paint-order=\"stroke\">\n{texts}</g>"
+            ));
+        }
     }
 
     /// A faint line for each episode, from the row of all episodes to the last thread, below all else.
@@ -285,7 +407,8 @@ impl Picture {
     }
 
     /// The whole file.
-    fn finished(self) -> String {
+    fn finished(mut self) -> String {
+        self.write_pauses();
         let (width, height) = (self.width, self.y + 30);
         format!(
             "<svg xmlns=\"http://www.w3.org/2000/svg\" width=\"{width}\" height=\"{height}\" viewBox=\"0 0 {width} {height}\" \
@@ -349,7 +472,55 @@ mod tests {
     }
 
     fn log(episodes: u32, links: &[(u32, u32)]) -> Log {
-        Log { episodes, links: links.to_vec() }
+        Log { episodes, links: links.iter().map(|&(from, to)| Link { from, to, pause: 0 }).collect() }
+    }
+
+    /// A log of links with their pauses.
+    fn paused(episodes: u32, links: &[(u32, u32, u32)]) -> Log {
+        Log { episodes, links: links.iter().map(|&(from, to, pause)| Link { from, to, pause }).collect() }
+    }
+
+    /// The value of an element's attribute.
+    fn value(tag: &str, name: &str) -> usize {
+        let (_, rest) = tag.split_once(&format!(" {name}=\"")).expect("the element has the attribute");
+        rest.split_once('"').and_then(|(value, _)| value.parse().ok()).expect("a number")
+    }
+
+    /// Where the first dot of a radius stands.
+    fn dots_at(svg: &str, radius: usize) -> usize {
+        value(svg.split('<').find(|tag| tag.contains(&format!(" r=\"{radius}\""))).expect("a dot"), "cy")
+    }
+
+    /// The pauses that a picture writes, each with its place, in order. That none overlaps another one, an episode's
+    /// number or a circle is checked.
+    fn pauses(svg: &str) -> Vec<(u32, usize, usize)> {
+        let Some((before, rest)) = svg.split_once("<g class=\"pauses\"") else { return Vec::new() };
+        let (head, texts) = rest.split_once('>').expect("the group begins");
+        let (texts, behind) = texts.split_once("</g>").expect("the group ends");
+        assert_eq!(behind, "\n</svg>\n", "the pauses stand above all else");
+        let mut taken: Vec<Area> = Vec::new();
+        for tag in before.split('<').filter(|tag| tag.starts_with("circle ")) {
+            let width = if tag.contains("class=\"ring\"") { 1 } else { 0 };
+            taken.push(Area::of_circle(value(tag, "cx"), value(tag, "cy"), value(tag, "r") + width));
+        }
+        for tag in before.split('<').filter(|tag| tag.starts_with("text ") && tag.contains("\"middle\"")) {
+            let number = tag.split_once('>').and_then(|(_, text)| text.parse().ok()).expect("an episode's number");
+            taken.push(Area::of_number(number, value(tag, "x"), value(tag, "y"), value(tag, "font-size")));
+        }
+        let mut written = Vec::new();
+        for tag in texts.split('<').filter(|tag| tag.starts_with("text ")) {
+            let pause = tag.split_once('>').and_then(|(_, text)| text.parse().ok()).expect("a pause");
+            let area = Area::of_number(pause, value(tag, "x"), value(tag, "y"), value(head, "font-size"));
+            assert!(!taken.iter().any(|other| other.overlaps(&area)), "{pause} at {area:?}");
+            taken.push(area);
+            written.push((pause, value(tag, "x"), value(tag, "y")));
+        }
+        written
+    }
+
+    /// The minutes of the pauses that a picture writes, in order.
+    fn minutes(svg: &str) -> Vec<u32> {
+        pauses(svg).iter().map(|pause| pause.0).collect()
     }
 
     #[test]
@@ -391,12 +562,74 @@ mod tests {
     #[test]
     fn random_logs() {
         let mut random = Random::new();
-        for _ in 0..100 {
+        for ceiling in [1, 3, 100, 4096].into_iter().cycle().take(200) {
             let episodes = 2 + random.below(60);
-            let pair = |random: &mut Random| (random.below(episodes), random.below(episodes));
-            let links = (0..random.below(200)).map(|_| pair(&mut random)).filter(|(from, to)| from < to).collect();
-            picture(&Log { episodes, links });
+            let links = (0..random.below(200)).map(|_| random.link(episodes, ceiling)).filter(|link| link.from < link.to);
+            let log = Log { episodes, links: links.collect() };
+            let (svg, _) = picture(&log);
+            let least = least_pauses(&log);
+            assert!(minutes(&svg).iter().all(|pause| least.values().any(|least| least == pause)));
+            assert_eq!(svg.contains(">pauses: "), !least.is_empty());
         }
+    }
+
+    #[test]
+    fn a_pause_stands_below_a_thread_and_above_an_arc() {
+        let (svg, report) = picture(&paused(4, &[(0, 1, 20), (1, 2, 0), (2, 3, 4095), (0, 2, 90)]));
+        assert_eq!(report.threads, [vec![0, 1, 2, 3]]);
+        let [(90, middle, above), (20, left, below), (4095, right, also_below)] = pauses(&svg)[..] else { panic!("{svg}") };
+        assert_eq!((left, middle, right), (90 + 32, 90 + 64, 90 + 160));
+        assert!(above < dots_at(&svg, 3) && dots_at(&svg, 5) < below && below == also_below);
+    }
+
+    #[test]
+    fn a_pause_stands_below_an_arc_to_a_smaller_number() {
+        let (svg, _) = picture(&paused(3, &[(2, 1, 10), (1, 0, 20), (2, 0, 30)]));
+        let [(30, middle, below), (10, ..), (20, ..)] = pauses(&svg)[..] else { panic!("{svg}") };
+        assert_eq!(middle, 90 + 64);
+        assert!(dots_at(&svg, 3) < below && below < dots_at(&svg, 5));
+    }
+
+    #[test]
+    fn of_several_pauses_the_least_is_written_and_0_is_not() {
+        assert_eq!(minutes(&picture(&paused(2, &[(0, 1, 50), (0, 1, 20), (0, 1, 35)])).0), [20]);
+        let without = picture(&log(2, &[(0, 1), (0, 1)])).0;
+        assert_eq!(picture(&paused(2, &[(0, 1, 50), (0, 1, 0)])).0, without);
+        assert!(!without.contains("pauses"));
+    }
+
+    #[test]
+    fn a_pause_is_written_where_it_overlaps_nothing() {
+        let mut picture = Picture::new(&log(2, &[]));
+        assert_eq!(picture.size, 12);
+        // The figures of a pause are 7 wide and 8 high.
+        assert_eq!(Area::of_number(45, 200, 100, 10), Area { left: 193, right: 207, top: 92, bottom: 100 });
+        picture.dot(300, 100, 5, "#333333");
+        let rows = [
+            (45, 200, 100, true),   // the first
+            (46, 213, 100, false),  // 1 too far left
+            (47, 214, 100, true),   // just beside the first
+            (48, 200, 93, false),   // 1 too low
+            (49, 200, 92, true),    // just above the first
+            (50, 289, 100, false),  // 1 into the dot
+            (51, 288, 100, true),   // just beside the dot
+            (6, 300, 95, true),     // just above the dot
+            (1234, 300, 113, true), // just below it
+            (7, 300, 112, false),   // 1 into both
+        ];
+        picture.wanted.extend(rows.iter().map(|&(pause, x, y, _)| Wanted { pause, x, y }));
+        let written: Vec<u32> = rows.iter().filter(|row| row.3).map(|row| row.0).collect();
+        assert_eq!(minutes(&picture.finished()), written);
+    }
+
+    #[test]
+    fn the_pauses_of_a_loop_find_room_first() {
+        let svg = of_loop(&paused(3, &[(0, 1, 5), (1, 0, 6), (1, 2, 7), (2, 2, 8)]), &[0, 1]);
+        assert_eq!(minutes(&svg), [5, 6, 7, 8]);
+        // The arcs 49-101 and 50-100 have one middle, and the second is as high but for 1.
+        let links = [(0, 199, 1), (49, 101, 2), (50, 100, 3), (5, 5, 4)];
+        assert_eq!(minutes(&of_loop(&paused(200, &links), &[5])), [4, 1, 2]);
+        assert_eq!(minutes(&of_loop(&paused(200, &[&links[..], &[(100, 50, 9)]].concat()), &[50, 100])), [3, 9, 1, 4]);
     }
 
     #[test]

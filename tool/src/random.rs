@@ -1,5 +1,7 @@
 //! Numbers for the tests: the same ones in each run.
 
+use zohapy::Link;
+
 pub struct Random(u64);
 
 impl Random {
@@ -13,5 +15,10 @@ impl Random {
         self.0 ^= self.0 >> 7;
         self.0 ^= self.0 << 17;
         ((self.0 >> 32) % u64::from(ceiling)) as u32
+    }
+
+    /// A link of two of the episodes, with a pause below `ceiling`.
+    pub fn link(&mut self, episodes: u32, ceiling: u32) -> Link {
+        Link { from: self.below(episodes), to: self.below(episodes), pause: self.below(ceiling) }
     }
 }

@@ -4,11 +4,17 @@
 use std::path::PathBuf;
 use std::process::{Command, Output};
 
-use zohapy::{Report, words_from_bytes};
+use zohapy::{Report, WORK_WORDS, bytes_from_words, copy_words, fair_copy, links, read, words_from_bytes};
 
 /// The samples, and whether they have a text form.
-const SAMPLES: [(&str, bool); 5] =
-    [("whole-example", true), ("small-night", true), ("full-night", true), ("loop", true), ("damaged", false)];
+const SAMPLES: [(&str, bool); 6] = [
+    ("whole-example", true),
+    ("small-night", true),
+    ("paused-night", true),
+    ("full-night", true),
+    ("loop", true),
+    ("damaged", false),
+];
 
 fn path(name: &str, ending: &str) -> PathBuf {
     [env!("CARGO_MANIFEST_DIR"), "..", "samples", &format!("{name}.{ending}")].iter().collect()
@@ -57,8 +63,28 @@ fn each_has_a_picture_or_a_refusal() {
 }
 
 #[test]
-fn the_stored_picture_is_that_of_the_log() {
-    assert!(run("picture", "small-night", "log").stdout == content("small-night", "svg"));
+fn the_stored_pictures_are_those_of_the_logs() {
+    for name in ["small-night", "paused-night"] {
+        assert!(run("picture", name, "log").stdout == content(name, "svg"), "{name}");
+    }
+}
+
+#[test]
+fn the_stored_fair_copy_is_that_of_the_log() {
+    let log = words_from_bytes(&content("paused-night", "log")).expect("the bytes are words");
+    let mut out = vec![0; copy_words(read(&log).expect("the log passes").links)];
+    let count = fair_copy(&log, &mut out, &mut vec![0; WORK_WORDS]).expect("the log has a fair copy");
+    assert!(bytes_from_words(&out[..count]) == run("bytes", "paused-night", "fair.txt").stdout);
+}
+
+#[test]
+fn a_log_and_its_trimmed_copy_without_pauses_differ_in_one_link() {
+    let fair = words_from_bytes(&run("bytes", "paused-night", "fair.txt").stdout).expect("the bytes are words");
+    let trimmed = words_from_bytes(&run("trim", "paused-night", "log").stdout).expect("the bytes are words");
+    let mut kept = links(&fair).expect("the fair copy passes");
+    kept.retain(|link| (link.from, link.to) != (0, 6));
+    kept.iter_mut().for_each(|link| link.pause = 0);
+    assert_eq!(links(&trimmed), Ok(kept));
 }
 
 #[test]
