@@ -81,9 +81,10 @@ loop-again c =
     (λ p.
     let marked = is-marked row (at .b) (λ e. omega (arith, p .0 .taken)) in
     let more = marked-room row (a .a) (at .b) (omega arith) (λ e. omega (arith, p .0 .taken)) in
-    rw (p .1, p .2, to-sum (at .b) (pauseAt row (at .b)))
+    rw (p .1, p .2)
+    (rw (← to-sum (at .b) (pauseAt row (at .b))) at
     (listing-more (markedAt row) (λ b. toWord b (pauseAt row b)) (a .out .now) (at .out) (length row) (at .links) (at .b) (at .inv) (omega arith)
-    (omega (arith, at .inv .size)) marked))
+    (omega (arith, at .inv .size)) marked)))
     (λ p.
     rw (p .1, p .2)
     (listing-same (markedAt row) (λ b. toWord b (pauseAt row b)) (a .out .now) (at .out) (length row) (at .links) (at .b) (at .inv) (omega arith)
