@@ -4,7 +4,7 @@
 use crate::services::{Answer, REPORT, Service, TRIMMED_COPY};
 use crate::shapes::{EPISODES, Numbers, log_of, random};
 use std::collections::HashSet;
-use zohapy::{Reading, WORK_WORDS, kind, number, report_words};
+use zohapy::{Reading, WORK_WORDS, episode, kind, number, report_words};
 
 /// What a log that passes has, by its head and its end.
 pub fn figures(log: &[u32]) -> Reading {
@@ -19,7 +19,7 @@ fn links_of(log: &[u32]) -> HashSet<(u32, u32)> {
         if kind(word) == 2 {
             from = number(word);
         } else {
-            links.insert((from, number(word)));
+            links.insert((from, episode(word)));
         }
     }
     links
@@ -144,13 +144,14 @@ fn check_refused(service: &Service) {
     for _ in 0..20_000 {
         let mut words = vec![0x1000_0000 + numbers.below(5) as u32];
         for _ in 0..numbers.below(4) {
-            words.extend([0x2000_0000 + numbers.below(4) as u32, 0x3000_0000 + numbers.below(4) as u32]);
+            let pause = (numbers.below(3) as u32) << 16;
+            words.extend([0x2000_0000 + numbers.below(4) as u32, 0x3000_0000 + pause + numbers.below(4) as u32]);
         }
         words.push(0xF000_0000 + words.len() as u32 / 2);
         let needed = (service.needed)(figures(&words));
         if numbers.below(2) == 0 {
             let at = numbers.below(words.len());
-            words[at] = (numbers.below(16) as u32) << 28 | numbers.below(5) as u32;
+            words[at] = (numbers.below(16) as u32) << 28 | (numbers.below(3) as u32) << 16 | numbers.below(5) as u32;
         }
         assert_alike(service, &words, needed - numbers.below(2), WORK_WORDS);
     }

@@ -2,7 +2,7 @@
 //! report. The library is measured beside it.
 
 use crate::shapes::{EPISODES, WORDS};
-use zohapy::{Reading, Refusal, WORK_WORDS, copy_words, kind, number, report_words};
+use zohapy::{Reading, Refusal, WORK_WORDS, copy_words, episode, kind, number, report_words};
 
 /// A set of episodes.
 type Row = [u64; 4];
@@ -69,28 +69,29 @@ fn read(log: &[u32], links: &mut Matrix) -> Result<Reading, Refusal> {
     let mut count = 0;
     for (i, &word) in groups.iter().enumerate() {
         let place = i + 1;
-        let episode = number(word) as usize;
         match kind(word) {
             2 => {
+                let earlier = number(word) as usize;
                 if groups.get(i + 1).is_none_or(|&next| kind(next) != 3) {
                     return refuse(6, place);
                 }
-                if episode >= n {
+                if earlier >= n {
                     return refuse(7, place);
                 }
-                from = Some(episode);
+                from = Some(earlier);
             }
             3 => {
                 let Some(from) = from else {
                     return refuse(5, place);
                 };
-                if episode >= n {
+                let later = episode(word) as usize;
+                if later >= n {
                     return refuse(7, place);
                 }
                 if count == WORDS {
                     return refuse(8, place);
                 }
-                insert(&mut links[from], episode);
+                insert(&mut links[from], later);
                 count += 1;
             }
             _ => return refuse(4, place),
