@@ -3,7 +3,7 @@
 -- copy of a log that passes questions 1 to 10 passes them.
 use mathlib.Core.Path.{_≡_, refl, _∙_, ap, ap₂, sym, subst}
 use mathlib.Core.Logic.{_↔_}
-use mathlib.Core.List.{List, _++_, map, List·Nodup, Memᴰ·map, Memᴰ·of-map}
+use mathlib.Core.List.{List, _++_, List·Nodup, Memᴰ·of-map}
 use Prim.Native.Nat.{ℕ, zero, suc, _<_, _≤_}
 use native.Mathlib.Omega.{arith}
 use lib.ListN.{length, getD}
@@ -11,7 +11,6 @@ use Rattle.paths.specs.Graph.{Graph, Link, EndsBelow, SameLinks}
 use Rattle.paths.proofs.Numbers.{rising-equal}
 use Rattle.paths.proofs.Passing.{passing-rising}
 use Rattle.log.specs.Content.{Heard, Content, graph, HeardOf, LeastPause, SameContent, leastPause}
-use Rattle.log.specs.Words.{Small}
 use Rattle.log.specs.Answer.{given}
 use Rattle.log.specs.Log.{questions, contentOf, graphOf}
 use Rattle.log.specs.declared.Ceilings.{Ceilings}

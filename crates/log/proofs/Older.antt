@@ -1,13 +1,12 @@
 -- Older logs read as before: pause 0 everywhere, and the graph and the answer to questions 1 to 10 that they had.
-use mathlib.Core.Path.{_≡_, refl, _∙_, ap, ap₂, sym}
-use mathlib.Core.Logic.{_≢_, ⊎-elim}
+use mathlib.Core.Path.{_≡_, refl, _∙_, ap, ap₂}
+use mathlib.Core.Logic.{⊎-elim}
 use mathlib.Core.Bool.{Bool, true, false, not, _||_}
 use mathlib.Core.List.{
   List,
   [],
   _∷_,
   map,
-  List·Memᴰ as Mem,
   List·Memᴰ·head as here,
   List·Memᴰ·tail as there,
   List·Memᴰ·not-nil as not-nil,
@@ -28,7 +27,6 @@ use Rattle.log.specs.Earlier.{Older}
 use Rattle.log.specs.Earlier as earlier
 use Rattle.log.specs.declared.Ceilings.{Ceilings}
 use Rattle.log.proofs.Words.{figure-to}
-use Rattle.log.proofs.Links.{heard-from}
 
 -- a word of an older log: question 7 looks at its whole number
 figure-older : (w : ℕ) → (kind w ≡ 3 → number w < 2 ^ 16) → figure w ≡ number w

@@ -20,7 +20,7 @@ use mathlib.Core.List.{
   Memᴰ·of-map,
   Memᴰ·cast,
 }
-use Prim.Native.Nat.{ℕ, _≤_, _<_, min}
+use Prim.Native.Nat.{ℕ, _≤_, min}
 use native.Mathlib.Decide.{ℕ-discrete}
 use native.Mathlib.Omega.{arith}
 use Rattle.order.proofs.Lists.{filter-sound, filter-complete}

@@ -19,7 +19,7 @@ use Prim.Native.Nat.{ℕ, _+_, _-_, _*_, _/_, _≤_, _<_}
 use native.Mathlib.Decide.{ℕ-discrete}
 use native.Mathlib.Omega.{arith}
 use lib.ListN.{length, getD}
-use Rattle.log.specs.Words.{kind, number, toEpisode}
+use Rattle.log.specs.Words.{kind, toEpisode}
 use Rattle.log.specs.Content.{joins}
 use Rattle.log.proofs.Links.{linksBefore, nearestFrom}
 use Rattle.log.proofs.Words.{figure-from, figure-to}
