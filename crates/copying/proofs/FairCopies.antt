@@ -3,7 +3,7 @@
 -- copy of a log that passes questions 1 to 10 passes them.
 use mathlib.Core.Path.{_≡_, refl, _∙_, ap, ap₂, sym, subst}
 use mathlib.Core.Logic.{_↔_}
-use mathlib.Core.List.{List, _++_, List·Nodup, Memᴰ·of-map}
+use mathlib.Core.List.{List, _++_, List·Nodup, IsChain, Memᴰ·of-map}
 use Prim.Native.Nat.{ℕ, zero, suc, _<_, _≤_}
 use native.Mathlib.Omega.{arith}
 use lib.ListN.{length, getD}
@@ -17,9 +17,9 @@ use Rattle.log.specs.declared.Ceilings.{Ceilings}
 use Rattle.log.proofs.Words.{number-lt}
 use Rattle.log.proofs.Pauses.{least-pause, link-heard, same-links, same-least, content-same, content-sym, content-trans}
 use Rattle.log.proofs.Laws.{words-small, few-episodes, few-words, graph-episodes, graph-count, links-below, content-fits}
-use Rattle.copying.specs.FairCopy.{linked, linkedTo, group, groups, groupLinks, copyWords, fairWords, fairNeed}
+use Rattle.copying.specs.FairCopy.{linked, linkedTo, group, groups, groupLinks, copyWords, fairWords, Precedes, fairNeed}
 use Rattle.copying.proofs.Linked.{linkedTo-mem, mem-linkedTo, group-same}
-use Rattle.copying.proofs.GroupLinks.{linksOf, group-links-mem, mem-group-links, group-links-nodup, length-group-links, copy-words-fit}
+use Rattle.copying.proofs.GroupLinks.{linksOf, group-links-mem, mem-group-links, group-links-nodup, group-links-rising, length-group-links, copy-words-fit}
 use Rattle.copying.proofs.ReadBack.{Fits, paused, copy-episodes, copy-heard, copy-links, copy-passes}
 
 -- a copy depends only on the episodes, on the links between them and on their pauses
@@ -102,6 +102,10 @@ module _ (pause : ℕ → ℕ → ℕ) (g : Graph) (fits : Fits pause g) where
   -- it repeats no link
   pub copy-nodup : List·Nodup (graphOf (copyWords pause g) .links)
   copy-nodup = rw (copy-links pause g fits) (group-links-nodup g (g .n))
+
+  -- its links rise, by the earlier episode and then by the later one
+  pub copy-rising : IsChain Precedes (graphOf (copyWords pause g) .links)
+  copy-rising = rw (copy-links pause g fits) (group-links-rising g (g .n))
 
 -- a content and its fair copy agree, where all links join episodes
 module _ (c : Content) (fits : Fits (leastPause c) (graph c)) (ends : EndsBelow (graph c)) where

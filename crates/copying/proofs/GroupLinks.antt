@@ -1,7 +1,7 @@
 -- The links of a copy's groups: each link between episodes, once. So the copy is at most as long as `fairNeed` says.
-use mathlib.Core.Path.{_≡_, sym, ap}
+use mathlib.Core.Path.{_≡_, refl, sym, ap}
 use mathlib.Core.HLevel.{×-discrete}
-use mathlib.Core.Logic.{⊎-elim}
+use mathlib.Core.Logic.{inl, inr, ⊎-elim}
 use mathlib.Core.List.{
   List,
   [],
@@ -18,15 +18,19 @@ use mathlib.Core.List.{
   Memᴰ·of-map,
   List·Nodup,
   Pairwise·nil,
+  IsChain,
+  IsChain·nil,
+  IsChain·singleton,
+  IsChain·cons-cons,
 }
 use Prim.Native.Nat.{ℕ, zero, suc, _*_, _<_, _≤_}
 use native.Mathlib.Decide.{ℕ-discrete}
 use native.Mathlib.Omega.{arith}
 use lib.ListN.{length, length-append, length-map}
-use Rattle.order.proofs.Lists.{nodup-cons, nodup-head, nodup-tail, nodup-append, nodup-le}
-use Rattle.paths.specs.Graph.{Graph, Link}
-use Rattle.paths.proofs.Passing.{passing-nodup}
-use Rattle.copying.specs.FairCopy.{linked, linkedTo, groups, groupLinks, copyWords, fairNeed}
+use Rattle.order.proofs.Lists.{nodup-cons, nodup-head, nodup-tail, nodup-append, nodup-le, chain-append}
+use Rattle.paths.specs.Graph.{Graph, Link, Rising}
+use Rattle.paths.proofs.Passing.{passing-nodup, passing-rising}
+use Rattle.copying.specs.FairCopy.{linked, linkedTo, groups, groupLinks, copyWords, Precedes, fairNeed}
 use Rattle.copying.proofs.Linked.{linkedTo-mem, mem-linkedTo, length-group-le, length-copy}
 
 -- the links from `a` to the members of a list
@@ -41,6 +45,11 @@ links-of-mem a b c bs m =
 links-of-nodup : (a : ℕ) (bs : List ℕ) → List·Nodup bs → List·Nodup (linksOf a bs)
 links-of-nodup a [] p = Pairwise·nil
 links-of-nodup a (b ∷ bs) p = nodup-cons (λ m. nodup-head p (links-of-mem a a b bs m .1)) (links-of-nodup a bs (nodup-tail p))
+
+links-of-rising : (a : ℕ) (bs : List ℕ) → Rising bs → IsChain Precedes (linksOf a bs)
+links-of-rising a [] IsChain·nil = IsChain·nil
+links-of-rising a (b ∷ []) (IsChain·singleton _) = IsChain·singleton (a, b)
+links-of-rising a (b ∷ c ∷ bs) (IsChain·cons-cons r d) = IsChain·cons-cons (inr (refl, r)) (links-of-rising a (c ∷ bs) d)
 
 module _ (g : Graph) where
   -- the links of the groups below `k` are the graph's links between episodes, from episodes below `k`
@@ -79,6 +88,18 @@ module _ (g : Graph) where
       let low = group-links-mem k (l .0) (l .1) m .0 in
       let same = links-of-mem k (l .0) (l .1) (linkedTo k (g .links) (g .n)) i .0 in
       omega arith)
+
+  -- they rise, by the earlier episode and then by the later one
+  pub group-links-rising : (k : ℕ) → IsChain Precedes (groupLinks g k)
+  unfolding groupLinks
+  group-links-rising zero = IsChain·nil
+  group-links-rising (suc k) =
+      let bs : List ℕ = linkedTo k (g .links) (g .n) in
+      chain-append (group-links-rising k) (links-of-rising k bs (passing-rising (λ b. linked k b (g .links)) (g .n)))
+      (λ l m i j.
+      let low = group-links-mem k (l .0) (l .1) i .0 in
+      let same = links-of-mem k (m .0) (m .1) bs j .0 in
+      inl (omega arith))
 
   -- so there are at most as many as the graph has
   pub length-group-links : (k : ℕ) → length (groupLinks g k) ≤ length (g .links)

@@ -1,7 +1,9 @@
 -- The fair copy of a log: each link once, in order, with its least pause.
+use mathlib.Core.Path.{_≡_}
+use mathlib.Core.Logic.{_⊎_}
 use mathlib.Core.Bool.{Bool, false, _&&_, _||_}
 use mathlib.Core.List.{List, [], _∷_, _++_, map}
-use Prim.Native.Nat.{ℕ, zero, suc, _+_, _*_}
+use Prim.Native.Nat.{ℕ, zero, suc, _+_, _*_, _<_}
 use lib.Dec.{eqb}
 use lib.ListN.{length}
 use Rattle.paths.specs.Graph.{Graph}
@@ -40,6 +42,10 @@ copyWords pause g = word 1 (g .n) ∷ groups pause g (g .n) ++ word 15 (length (
 -- the fair copy: each link that was heard, with its least pause
 abbrev pub fairWords : Content → List ℕ
 fairWords c = copyWords (leastPause c) (record { n = c .n; links = map joins (c .heard) })
+
+-- one link comes before another: by the earlier episode, then by the later one
+abbrev pub Precedes : ℕ × ℕ → ℕ × ℕ → Type 0
+Precedes l m = (l .0 < m .0) ⊎ ((l .0 ≡ m .0) × (l .1 < m .1))
 
 -- the output words that the fair copy of a log with `t` to words needs
 abbrev pub fairNeed : ℕ → ℕ

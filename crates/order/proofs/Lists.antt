@@ -19,6 +19,10 @@ use mathlib.Core.List.{
   List-discrete,
   List·Nodup,
   Nodup·sublist,
+  IsChain,
+  IsChain·nil,
+  IsChain·singleton,
+  IsChain·cons-cons,
   Pairwise·cons,
   Sublistᴰ,
   filter,
@@ -56,6 +60,14 @@ module _ {A : Type 0} where
   nodup-append (a ∷ l) m p q h =
       nodup-cons (λ n. ⊎-elim (nodup-head p) (h a (here refl)) (append-cases l n))
       (nodup-append l m (nodup-tail p) q (λ x n. h x (there n)))
+
+-- chains behind each other, where each member of the first stands so to each of the second
+pub chain-append : {A : Type 0} {R : A → A → Type 0} {xs ys : List A} → IsChain R xs → IsChain R ys
+    → ((x y : A) → Mem x xs → Mem y ys → R x y) → IsChain R (xs ++ ys)
+chain-append IsChain·nil d h = d
+chain-append {ys = []} (IsChain·singleton a) d h = IsChain·singleton a
+chain-append {ys = y ∷ ys} (IsChain·singleton a) d h = IsChain·cons-cons (h a y (here refl) (here refl)) d
+chain-append (IsChain·cons-cons r c) d h = IsChain·cons-cons r (chain-append c d (λ x y i j. h x y (there i) j))
 
 -- functions that agree on the members
 pub map-same : {A B : Type 0} (f g : A → B) (l : List A) → All (λ x. f x ≡ g x) l → map f l ≡ map g l

@@ -4,7 +4,7 @@
 -- scope's numbers. The report's words are the first `c` of the output, `take c o′`, where `c` is the count that the outcome gives.
 use mathlib.Core.Path.{_≡_, sym, ap, subst, _∙_}
 use mathlib.Core.Logic.{_↔_}
-use mathlib.Core.List.{List, [], _++_, map, List·Nodup}
+use mathlib.Core.List.{List, [], _++_, map, List·Nodup, IsChain}
 use Prim.Native.Nat.{ℕ, _≤_, _<_}
 use native.Mathlib.Omega.{arith}
 use lib.ListN.{length, take, drop, getD}
@@ -25,7 +25,7 @@ use Rattle.log.proofs.Older.{questions-older, graph-older, no-pause}
 use Rattle.writing.specs.Layout.{reportWords, loopWords, reportNeed, apartOf, threadsOf, BeginsWith}
 use Rattle.parsing.specs.Whole.{IsReport, Whole, ThreadNumber, ThreadSteps}
 use Rattle.parsing.proofs.Wholes.{report-read}
-use Rattle.copying.specs.FairCopy.{fairWords, fairNeed}
+use Rattle.copying.specs.FairCopy.{fairWords, Precedes, fairNeed}
 use Rattle.copying.specs.Earlier as earlier-copy
 use Rattle.copying.proofs.FairCopies as fair
 use Rattle.copying.proofs.Older.{fair-older, older-same}
@@ -206,6 +206,10 @@ module _ (m : Ceilings) (l o w o′ w′ : List ℕ) (r : CopyOutcome) (left : C
   pub copy-once : List·Nodup (graphOf (take c o′) .links)
   copy-once = rw (copy .words) (fair.copy-once m l _ _ (copy .read))
 
+  -- In the order written the links rise, by the earlier episode and then by the later one; pauses do not matter for it.
+  pub copy-rising : IsChain Precedes (graphOf (take c o′) .links)
+  copy-rising = rw (copy .words) (fair.copy-rising _ _ (fair.log-fits m l _ _ (copy .read)))
+
   -- So the log and its copy have the same ways, covers and apart sets, width and furthest apart set, and the same loops.
   pub copy-ways : (a b : ℕ) → Way (graphOf l) a b ↔ Way (graphOf (take c o′)) a b
   copy-ways = graphs.same-ways (copy-read-back .1)
@@ -334,12 +338,16 @@ module _ (m : Ceilings) (l o w o′ w′ : List ℕ) (r : TrimOutcome) (left : T
       let read = calls.read-graph m (trimmedWords (graphOf l)) _ _ (trimming.trim-read m l _ _ (trim .read)) in
       rw (trim .words) (read ∙ ap (λ (k : ℕ). given (k, length (graphOf (trimmedWords (graphOf l)) .links))) (sym (same .episodes)), same)
 
-  -- The links are those that stay: each is the only thread from its first episode to its second. None is repeated, and there is no loop.
+  -- The links are those that stay: each is the only thread from its first episode to its second. None is repeated, they rise, and there is no
+  -- loop.
   pub trim-links : (a b : ℕ) → Link (graphOf (take c o′)) a b ↔ Stays (graphOf l) a b
   trim-links a b = rw (trim .words) (trimming.trim-is m l _ _ (trim .read) .links a b)
 
   pub trim-once : List·Nodup (graphOf (take c o′) .links)
   trim-once = rw (trim .words) (trimming.trim-once m l _ _ (trim .read))
+
+  pub trim-rising : IsChain Precedes (graphOf (take c o′) .links)
+  trim-rising = rw (trim .words) (trimming.trim-rising m l _ _ (trim .read))
 
   pub trim-no-loop : (k : List ℕ) → Loop (graphOf (take c o′)) k → ⊥
   trim-no-loop k = calls.loop-cyclic (graphs.ways-acyclic (trim-read-back .1) (trim .acyclic))

@@ -2,7 +2,7 @@
 -- loop-free log it has the same ways, and two such logs have the same trimmed copy exactly when they have the same ways.
 use mathlib.Core.Path.{_≡_, ap, sym, _∙_}
 use mathlib.Core.Logic.{_↔_, Iff·trans, Iff·symm}
-use mathlib.Core.List.{List, List·Nodup}
+use mathlib.Core.List.{List, List·Nodup, IsChain}
 use Prim.Native.Nat.{ℕ, _≤_}
 use native.Mathlib.Omega.{arith}
 use lib.ListN.{length}
@@ -18,10 +18,10 @@ use Rattle.log.specs.declared.Ceilings.{Ceilings}
 use Rattle.log.proofs.Laws.{few-episodes, few-words, graph-episodes, graph-count, links-below}
 use Rattle.writing.specs.Layout.{loopWords}
 use Rattle.writing.proofs.Layouts.{length-loop}
-use Rattle.copying.specs.FairCopy.{groupLinks, fairWords, fairNeed}
+use Rattle.copying.specs.FairCopy.{groupLinks, fairWords, Precedes, fairNeed}
 use Rattle.copying.proofs.GroupLinks.{length-group-links, copy-words-fit}
 use Rattle.copying.proofs.ReadBack.{Fits, copy-passes}
-use Rattle.copying.proofs.FairCopies.{log-fits, same-copy, copy-same-links, copy-nodup, copy-pause, fair-again, copy-same, copy-read}
+use Rattle.copying.proofs.FairCopies.{log-fits, same-copy, copy-same-links, copy-nodup, copy-rising, copy-pause, fair-again, copy-same, copy-read}
 use Rattle.trimming.specs.TrimmedCopy.{trimmed, noPause, trimmedWords}
 use Rattle.trimming.proofs.Kept.{trimmed-is, trimmed-few}
 
@@ -68,6 +68,10 @@ module _ (m : Ceilings) (l : List ℕ) (n t : ℕ) (e : questions m l ≡ given 
   -- none of them twice
   pub trim-once : List·Nodup (graphOf (trimmedWords (graphOf l)) .links)
   trim-once = copy-nodup noPause (trimmed (graphOf l)) fits
+
+  -- they rise, by the earlier episode and then by the later one
+  pub trim-rising : IsChain Precedes (graphOf (trimmedWords (graphOf l)) .links)
+  trim-rising = copy-rising noPause (trimmed (graphOf l)) fits
 
   -- each with pause 0
   pub trim-pause : (a b p : ℕ) → HeardOf (contentOf (trimmedWords (graphOf l))) a b p → p ≡ 0
