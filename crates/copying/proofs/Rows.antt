@@ -61,7 +61,9 @@ mark-kept w at p some low = record { same-length = refl; here = lowered-same (ge
 
 -- the pauses of the link from `a` to `b`, once `h` is heard
 pauses-here : (h : Heard) (hs : List Heard) → pausesOf (h .from) (h .to) (hs ++ h ∷ []) ≡ pausesOf (h .from) (h .to) hs ++ h .pause ∷ []
-pauses-here h hs = pauses-append (h .from) (h .to) hs (h ∷ []) ∙ ap (λ (ps : List ℕ). pausesOf (h .from) (h .to) hs ++ ps) (pauses-one h)
+pauses-here h hs =
+    pauses-append (h .from) (h .to) hs (h ∷ [])
+    ∙ ap (λ (ps : List ℕ). pausesOf (h .from) (h .to) hs ++ ps) (pauses-one (h .from) (h .to) h (refl, refl))
 
 pauses-other : (a b : ℕ) (h : Heard) (hs : List Heard) → ((a ≡ h .from) × (b ≡ h .to) → ⊥) → pausesOf a b (hs ++ h ∷ []) ≡ pausesOf a b hs
 pauses-other a b h hs ne =

@@ -45,7 +45,15 @@ module _ (a b : ℕ) where
       ap (map (λ (h : Heard). h .pause)) (filter-append gives xs ys)
       ∙ map-append (λ (h : Heard). h .pause) (filter gives xs) (filter gives ys)
 
-  -- of a link that is another, there is none
+  -- one to word gives its pause to its own link, and none to another
+  pub pauses-one : (h : Heard) → Gives h → pausesOf a b (h ∷ []) ≡ h .pause ∷ []
+  unfolding pausesOf
+  pauses-one h e = go (gives h)
+    where
+      go : (d : Dec (Gives h)) → map (λ (k : Heard). k .pause) (ite {C = List Heard} d (h ∷ []) []) ≡ h .pause ∷ []
+      go (yes f) = refl
+      go (no f) = absurd (f e)
+
   pub pauses-none : (h : Heard) → (Gives h → ⊥) → pausesOf a b (h ∷ []) ≡ []
   unfolding pausesOf
   pauses-none h ne = go (gives h)
@@ -65,15 +73,6 @@ module _ (a b : ℕ) where
   pub heard-pauses : (p : ℕ) (hs : List Heard) → Mem (record { from = a; to = b; pause = p }) hs → Mem p (pausesOf a b hs)
   unfolding pausesOf
   heard-pauses p hs m = Memᴰ·map (λ (h : Heard). h .pause) (filter-complete gives hs m (refl, refl))
-
--- and of itself there is its own
-pub pauses-one : (h : Heard) → pausesOf (h .from) (h .to) (h ∷ []) ≡ h .pause ∷ []
-unfolding pausesOf
-pauses-one h = go (gives (h .from) (h .to) h)
-  where
-    go : (d : Dec (Gives (h .from) (h .to) h)) → map (λ (k : Heard). k .pause) (ite {C = List Heard} d (h ∷ []) []) ≡ h .pause ∷ []
-    go (yes e) = refl
-    go (no f) = absurd (f (refl, refl))
 
 -- the least of one or more numbers is one of them, and none is less
 pub least-mem : (p : ℕ) (ps : List ℕ) → Mem (least (p ∷ ps)) (p ∷ ps)

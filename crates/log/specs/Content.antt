@@ -17,7 +17,7 @@ pub record Content : Type 0 where
   pub n : ℕ
   pub heard : List Heard
 
--- its link, without the pause
+-- a link that was heard, without its pause
 abbrev pub joins : Heard → ℕ × ℕ
 joins h = (h .from, h .to)
 
