@@ -1,10 +1,10 @@
 /* The sleeper report: the five services of the proved library, for C. Link build/libzohapy.a.
  *
- * A log is an array of 32-bit words; a word's top 4 bits are its kind and its low 28 bits its number. The number of a to word, of
- * kind 3, is the later episode of a link in bits 0 to 15 and the pause before it, in minutes, in bits 16 to 27; no other word has
- * a pause. Every call ends with an answer or one numbered refusal, on any content and length. A pointer must be aligned and not
- * null, also where the length is 0, and no two arrays may share a word. Nothing is allocated, and nothing is kept between
- * calls. */
+ * A log is an array of 32-bit words; a word's top 4 bits are its kind and its low 28 bits its number. The number of a to word,
+ * of kind 3, is the later episode of a link in bits 0 to 15 and the pause between its two episodes, in minutes, in bits 16 to
+ * 27; no other word has a pause. Every call ends with an answer or one numbered refusal, on any content and length. A pointer
+ * must be aligned and not null, also where the length is 0, and no two arrays may share a word. Nothing is allocated, and
+ * nothing is kept between calls. */
 #ifndef ZOHAPY_H
 #define ZOHAPY_H
 

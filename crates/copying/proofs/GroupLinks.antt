@@ -20,9 +20,8 @@ use mathlib.Core.List.{
   Pairwise·nil,
   IsChain,
   IsChain·nil,
-  IsChain·singleton,
-  IsChain·cons-cons,
 }
+use mathlib.Mathlib.Data.List.Chain.{isChain-map-of-isChain}
 use Prim.Native.Nat.{ℕ, zero, suc, _*_, _<_, _≤_}
 use native.Mathlib.Decide.{ℕ-discrete}
 use native.Mathlib.Omega.{arith}
@@ -47,9 +46,7 @@ links-of-nodup a [] p = Pairwise·nil
 links-of-nodup a (b ∷ bs) p = nodup-cons (λ m. nodup-head p (links-of-mem a a b bs m .1)) (links-of-nodup a bs (nodup-tail p))
 
 links-of-rising : (a : ℕ) (bs : List ℕ) → Rising bs → IsChain Precedes (linksOf a bs)
-links-of-rising a [] IsChain·nil = IsChain·nil
-links-of-rising a (b ∷ []) (IsChain·singleton _) = IsChain·singleton (a, b)
-links-of-rising a (b ∷ c ∷ bs) (IsChain·cons-cons r d) = IsChain·cons-cons (inr (refl, r)) (links-of-rising a (c ∷ bs) d)
+links-of-rising a bs = isChain-map-of-isChain (λ (b : ℕ). (a, b)) (λ b c h. inr (refl, h))
 
 module _ (g : Graph) where
   -- the links of the groups below `k` are the graph's links between episodes, from episodes below `k`

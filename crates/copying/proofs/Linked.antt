@@ -7,6 +7,7 @@ use mathlib.Core.List.{
   [],
   _∷_,
   _++_,
+  map-congr-left,
   List·Memᴰ as Mem,
   List·Memᴰ·head as here,
   List·Memᴰ·tail as there,
@@ -15,13 +16,13 @@ use mathlib.Core.List.{
 }
 use Prim.Native.Nat.{ℕ, zero, suc, _+_, _*_, _<_, _≤_}
 use native.Mathlib.Decide.{ℕ-discrete}
+use native.Mathlib.Nat.{ℕ-set}
 use native.Mathlib.Numerals.{add-one}
 use native.Mathlib.Omega.{arith}
 use lib.Dec.{eqb}
 use lib.ListN.{length, length-append, length-map}
 use borrow.Author.Tests.{eqb-true, eq-eqb}
 use Rattle.order.specs.Order.{All}
-use Rattle.order.proofs.Lists.{map-same}
 use Rattle.paths.specs.Graph.{Graph}
 use Rattle.paths.proofs.Passing.{passing-below, passing-test, test-passing}
 use Rattle.log.specs.Words.{word, toWord}
@@ -90,8 +91,7 @@ pub group-same : (a : ℕ) (p q : ℕ → ℕ) (bs : List ℕ) → All (λ b. p 
 unfolding group
 group-same a p q [] h = refl
 group-same a p q (b ∷ bs) h =
-    ap (λ (ws : List ℕ). word 2 a ∷ ws)
-    (map-same (λ (c : ℕ). toWord c (p c)) (λ (c : ℕ). toWord c (q c)) (b ∷ bs) (λ c i. ap (toWord c) (h c i)))
+    ap (λ (ws : List ℕ). word 2 a ∷ ws) (map-congr-left (λ c m. ∥∥₁-rec (ℕ-set _ _) (λ i. ap (toWord c) (h c i)) m))
 
 module _ (pause : ℕ → ℕ → ℕ) (g : Graph) where
   pub groups-more : (a : ℕ) → groups pause g (a + 1) ≡ groups pause g a ++ group a (pause a) (linkedTo a (g .links) (g .n))

@@ -1,8 +1,7 @@
 -- The fair copy of an older log is the one that it had.
 use mathlib.Core.Path.{_≡_, refl, _∙_, ap, ap₂, sym}
-use mathlib.Core.List.{List, [], _∷_, _++_}
+use mathlib.Core.List.{List, [], _∷_, _++_, map-congr-left}
 use Prim.Native.Nat.{ℕ, zero, suc}
-use Rattle.order.proofs.Lists.{map-same}
 use Rattle.paths.specs.Graph.{Graph, Link, SameLinks}
 use Rattle.log.specs.Words.{word, toWord}
 use Rattle.log.specs.Content.{SameContent, leastPause}
@@ -21,7 +20,7 @@ group-earlier : (a : ℕ) (bs : List ℕ) → group a (λ b. 0) bs ≡ earlier.g
 unfolding group earlier.group
 group-earlier a [] = refl
 group-earlier a (b ∷ bs) =
-    ap (λ (ws : List ℕ). word 2 a ∷ ws) (map-same (λ (c : ℕ). toWord c 0) (word 3) (b ∷ bs) (λ c i. to-unpaused c))
+    ap (λ (ws : List ℕ). word 2 a ∷ ws) (map-congr-left {f = λ (c : ℕ). toWord c 0} {g = word 3} {l = b ∷ bs} (λ c i. to-unpaused c))
 
 groups-earlier : (g : Graph) (k : ℕ) → groups (λ a b. 0) g k ≡ earlier.groups g k
 unfolding groups earlier.groups
@@ -29,7 +28,7 @@ groups-earlier g zero = refl
 groups-earlier g (suc k) =
     ap₂ (λ (xs ys : List ℕ). xs ++ ys) (groups-earlier g k) (group-earlier k (linkedTo k (g .links) (g .n)))
 
-copy-earlier : (g : Graph) → copyWords (λ a b. 0) g ≡ earlier.fairWords g
+pub copy-earlier : (g : Graph) → copyWords (λ a b. 0) g ≡ earlier.fairWords g
 unfolding copyWords earlier.fairWords
 copy-earlier g = rw (groups-earlier g (g .n))
 

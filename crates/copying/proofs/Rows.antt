@@ -14,8 +14,7 @@ use Rattle.order.specs.Order.{All}
 use Rattle.paths.proofs.Passing.{passing-equal}
 use Rattle.log.specs.Words.{kind, toEpisode, toPause}
 use Rattle.log.specs.Content.{Heard, Content, joins, pausesOf, least, leastPause}
-use Rattle.log.specs.Log.{figure, contentOf, graphOf, PassedLog}
-use Rattle.log.proofs.Words.{figure-to}
+use Rattle.log.specs.Log.{contentOf, graphOf, PassedLog}
 use Rattle.log.proofs.Links.{heardBefore, nearestFrom}
 use Rattle.log.proofs.Pauses.{pauses-append, pauses-one, pauses-none, pauses-heard, heard-pauses, link-heard, least-mem, least-more}
 use Rattle.log.proofs.Laws.{well-formed, graph-episodes, to-word, before-head, pass-from, pass-to, heard-passed}
@@ -124,15 +123,8 @@ marking-start l w block passed long zeros =
 
 -- what holds of the word at a place between head and end
 module _ (l w w′ : List ℕ) (block from p : ℕ) (passed : PassedLog l) (s : Marking l w w′ block from p) (inner : p + 1 < length l) where
-  to-here : kind (getD l p 0) ≢ 2 → (kind (getD l p 0) ≡ 3) × (1 < p)
-  to-here other = let (m, n, t, e, few) = passed in to-word m l n t e p (s .behind) inner other
-
-  -- a to word gives an episode
-  pub episode-below : kind (getD l p 0) ≢ 2 → toEpisode (getD l p 0) < 256
-  episode-below other =
-      let (m, n, t, e, few) = passed in
-      let b : figure (getD l p 0) < n = well-formed m l n t e .below p (s .behind) inner in
-      omega (arith, figure-to (getD l p 0) (to-here other .0))
+  to-here : kind (getD l p 0) ≢ 2 → (kind (getD l p 0) ≡ 3) × (1 < p) × (toEpisode (getD l p 0) < 256)
+  to-here = to-word l passed p (s .behind) inner
 
   -- the link that it gives
   abbrev link : Heard
@@ -162,7 +154,7 @@ module _ (l w w′ : List ℕ) (block from p : ℕ) (passed : PassedLog l) (s : 
             same-length = low .same-length ∙ s .same-length;
             marks =
                 rw (more, ← is-nearest)
-                (marks-here block (graphOf l .n) link (heardBefore l p) w′ w″ (passed-few l passed) (episode-below k) same (s .marks) low);
+                (marks-here block (graphOf l .n) link (heardBefore l p) w′ w″ (passed-few l passed) (to-here k .2) same (s .marks) low);
             nearest = λ h. cc;
           }
       go (no k) (no other) =

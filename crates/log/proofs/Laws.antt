@@ -2,7 +2,7 @@
 use mathlib.Core.Path.{_≡_, _∙_, sym, ap}
 use mathlib.Core.Logic.{_≢_, ⊎-elim}
 use mathlib.Core.List.{List, [], _∷_, _++_, map, map-append, List·Memᴰ as Mem}
-use Prim.Native.Nat.{ℕ, zero, suc, _+_, _-_, _<_, _≤_, _^_}
+use Prim.Native.Nat.{ℕ, _+_, _-_, _<_, _≤_, _^_}
 use native.Mathlib.Decide.{ℕ-discrete}
 use native.Mathlib.Omega.{arith}
 use lib.ListN.{length, getD, drop, length-map}
@@ -10,9 +10,9 @@ use Rattle.paths.specs.Graph.{EndsBelow}
 use Rattle.log.specs.Words.{kind, number, toEpisode, toPause, Small}
 use Rattle.log.specs.Content.{Heard, joins}
 use Rattle.log.specs.Answer.{given}
-use Rattle.log.specs.Log.{questions, contentOf, graphOf}
+use Rattle.log.specs.Log.{figure, questions, contentOf, graphOf, PassedLog}
 use Rattle.log.specs.declared.Ceilings.{Ceilings}
-use Rattle.log.proofs.Words.{number-lt, figure-from}
+use Rattle.log.proofs.Words.{number-lt, figure-from, figure-to}
 use Rattle.log.proofs.Links as links
 use Rattle.log.proofs.Links.{heard-count, heard-fits, heardBefore, linksBefore, nearestFrom}
 use Rattle.log.proofs.WellFormed as forms
@@ -48,16 +48,28 @@ module _ (m : Ceilings) (l : List ℕ) (n t : ℕ) (e : questions m l ≡ given 
   pub links-below : EndsBelow (graphOf l)
   links-below = forms.links-below m l n t e
 
-  -- a word between head and end that is no from word is a to word, and not the first behind the head
-  pub to-word : (p : ℕ) → 0 < p → p + 1 < length l → kind (getD l p 0) ≢ 2 → (kind (getD l p 0) ≡ 3) × (1 < p)
-  to-word p behind inner other = (⊎-elim (λ k. absurd (other k)) (λ k. k) (form .between p behind inner), later (ℕ-discrete p 1))
-    where
-      form : WellFormed m l n t
-      form = forms.well-formed m l n t e
+-- A word between head and end of a log that passes, at most 256 episodes being allowed: a from word gives an episode; any other is a to word, is not
+-- the first behind the head, and gives an episode too.
+module _ (l : List ℕ) (passed : PassedLog l) (p : ℕ) (behind : 0 < p) (inner : p + 1 < length l) where
+  below : figure (getD l p 0) < 256
+  below =
+      let (m, n, t, e, few) = passed in
+      let low : figure (getD l p 0) < n = forms.well-formed m l n t e .below p behind inner in
+      omega arith
 
-      later : Dec (p ≡ 1) → 1 < p
-      later (yes first) = absurd (other (rw first (form .starts (omega arith))))
-      later (no ne) = omega arith
+  pub from-word : kind (getD l p 0) ≡ 2 → number (getD l p 0) < 256
+  from-word k = rw (figure-from _ k) at below
+
+  pub to-word : kind (getD l p 0) ≢ 2 → (kind (getD l p 0) ≡ 3) × (1 < p) × (toEpisode (getD l p 0) < 256)
+  to-word other =
+      let (m, n, t, e, few) = passed in
+      let form = forms.well-formed m l n t e in
+      let k : kind (getD l p 0) ≡ 3 = ⊎-elim (λ k. absurd (other k)) (λ k. k) (form .between p behind inner) in
+      (k, later (form .starts (omega arith)) (ℕ-discrete p 1), rw (figure-to _ k) at below)
+    where
+      later : kind (getD l 1 0) ≡ 2 → Dec (p ≡ 1) → 1 < p
+      later first (yes e) = absurd (other (rw e first))
+      later first (no ne) = omega arith
 
 -- the episode and the pause of a link that was heard fit a to word
 pub content-fits : (l : List ℕ) (h : Heard) → Mem h (contentOf l .heard) → (h .to < 2 ^ 16) × (h .pause < 2 ^ 12)
@@ -88,22 +100,3 @@ module _ (m : Ceilings) (l : List ℕ) (n t : ℕ) (e : questions m l ≡ given 
       let f = forms.well-formed m l n t e in
       let all : length l - 1 + 1 ≡ length l = omega arith in
       sym (links.pass-end l (length l - 1) (omega arith) (omega arith) (f .end-kind)) ∙ rw all (links.before-all l)
-
-  nearest-at : (i : ℕ) → i + 2 < length l → nearestFrom l (i + 2) < n
-  nearest-at zero h =
-      let f = forms.well-formed m l n t e in
-      let k = f .starts (omega arith) in
-      rw (links.pass-from l 1 (omega arith) (omega arith) k .1) (rw (figure-from _ k) at (f .below 1 (omega arith) (omega arith)))
-  nearest-at (suc i) h =
-      let f = forms.well-formed m l n t e in
-      let next : suc i + 2 ≡ i + 2 + 1 = omega arith in
-      ⊎-elim
-      (λ k. rw (next, links.pass-from l (i + 2) (omega arith) (omega arith) k .1) (rw (figure-from _ k) at (f .below (i + 2) (omega arith) (omega arith))))
-      (λ k. rw (next, links.pass-to l (i + 2) (omega arith) (omega arith) k .1) (nearest-at i (omega arith)))
-      (f .between (i + 2) (omega arith) (omega arith))
-
-  -- from place 2 on the nearest from word before a place has an episode's number
-  pub nearest-below : (p : ℕ) → 1 < p → p < length l → nearestFrom l p < n
-  nearest-below p h g =
-      let same : p - 2 + 2 ≡ p = omega arith in
-      rw same at (nearest-at (p - 2) (omega arith))

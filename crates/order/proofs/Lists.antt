@@ -1,5 +1,5 @@
 -- Lists: no element twice, the members that pass a test, and with a decidable membership those that another list does not have.
-use mathlib.Core.Path.{_≡_, refl, sym, ap, ap₂, subst}
+use mathlib.Core.Path.{_≡_, refl, sym, ap, subst}
 use mathlib.Core.Logic.{_≢_, _⊎_, inl, inr, ⊎-elim, ite, Dec·not}
 use mathlib.Core.HLevel.{⊥-prop}
 use mathlib.Core.List.{
@@ -7,7 +7,6 @@ use mathlib.Core.List.{
   [],
   _∷_,
   _++_,
-  map,
   List·Memᴰ as Mem,
   List·Memᴰ·head as here,
   List·Memᴰ·tail as there,
@@ -61,18 +60,13 @@ module _ {A : Type 0} where
       nodup-cons (λ n. ⊎-elim (nodup-head p) (h a (here refl)) (append-cases l n))
       (nodup-append l m (nodup-tail p) q (λ x n. h x (there n)))
 
--- chains behind each other, where each member of the first stands so to each of the second
+-- two chains behind each other, where each member of the first is so related to each of the second
 pub chain-append : {A : Type 0} {R : A → A → Type 0} {xs ys : List A} → IsChain R xs → IsChain R ys
     → ((x y : A) → Mem x xs → Mem y ys → R x y) → IsChain R (xs ++ ys)
 chain-append IsChain·nil d h = d
 chain-append {ys = []} (IsChain·singleton a) d h = IsChain·singleton a
 chain-append {ys = y ∷ ys} (IsChain·singleton a) d h = IsChain·cons-cons (h a y (here refl) (here refl)) d
 chain-append (IsChain·cons-cons r c) d h = IsChain·cons-cons r (chain-append c d (λ x y i j. h x y (there i) j))
-
--- functions that agree on the members
-pub map-same : {A B : Type 0} (f g : A → B) (l : List A) → All (λ x. f x ≡ g x) l → map f l ≡ map g l
-map-same f g [] h = refl
-map-same {A} {B} f g (a ∷ l) h = ap₂ (λ (b : B) (m : List B). b ∷ m) (h a (here refl)) (map-same f g l (λ x i. h x (there i)))
 
 -- a member that has the property, or none has it
 pub find : {A : Type 0} {P : A → Type 0} → ((x : A) → Dec (P x)) → (l : List A) → ((x : A) × Mem x l × P x) ⊎ All (λ x. P x → ⊥) l

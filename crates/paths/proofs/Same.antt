@@ -1,7 +1,7 @@
 -- Graphs with the same episodes and the same ways have the same apart sets and furthest sets. If they have the same set of links too,
 -- they have the same threads, covers and loops: the order and the repeats of links make no difference.
-use mathlib.Core.Path.{_≡_, refl, sym, _∙_}
-use mathlib.Core.Logic.{inl, inr, ⊎-elim, _↔_, Iff·rfl, Iff·symm, Iff·trans}
+use mathlib.Core.Path.{_≡_, sym, _∙_}
+use mathlib.Core.Logic.{inl, inr, ⊎-elim, _↔_, Iff·symm, Iff·trans}
 use mathlib.Core.List.{List}
 use Prim.Native.Nat.{ℕ}
 use Rattle.order.proofs.Chains.{chain-map}
@@ -25,15 +25,9 @@ use Rattle.paths.specs.Graph.{
 use Rattle.paths.specs.Trimmed.{SameWays}
 use Rattle.paths.proofs.Ways.{way-map}
 
--- To have the same links is an equivalence, and so is to have the same ways.
-pub same-refl : {g : Graph} → SameLinks g g
-same-refl = record { episodes = refl; links = λ a b. Iff·rfl }
-
-pub same-sym : {g h : Graph} → SameLinks g h → SameLinks h g
+-- What holds from one graph to another holds back; and the same ways carry on to a third.
+same-sym : {g h : Graph} → SameLinks g h → SameLinks h g
 same-sym s = record { episodes = sym (s .episodes); links = λ a b. Iff·symm (s .links a b) }
-
-pub same-trans : {f g h : Graph} → SameLinks f g → SameLinks g h → SameLinks f h
-same-trans s t = record { episodes = s .episodes ∙ t .episodes; links = λ a b. Iff·trans (s .links a b) (t .links a b) }
 
 pub ways-sym : {g h : Graph} → SameWays g h → SameWays h g
 ways-sym s = record { episodes = sym (s .episodes); ways = λ a b. Iff·symm (s .ways a b) }

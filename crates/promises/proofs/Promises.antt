@@ -9,7 +9,7 @@ use Prim.Native.Nat.{ℕ, _≤_, _<_}
 use native.Mathlib.Omega.{arith}
 use lib.ListN.{length, take, drop, getD}
 use Rattle.order.specs.Order.{All}
-use Rattle.paths.specs.Graph.{Link, SameLinks, Way, Cover, Apart, Smallest, Largest, Width, Furthest, Rising, Loop}
+use Rattle.paths.specs.Graph.{Graph, Link, SameLinks, Way, Cover, Apart, Smallest, Largest, Width, Furthest, Rising, Loop}
 use Rattle.paths.specs.Trimmed.{SameWays, Stays}
 use Rattle.paths.proofs.Theorems as graphs
 use Rattle.log.specs.Words.{kind, number, word}
@@ -28,8 +28,8 @@ use Rattle.parsing.proofs.Wholes.{report-read}
 use Rattle.copying.specs.FairCopy.{fairWords, Precedes, fairNeed}
 use Rattle.copying.specs.Earlier as earlier-copy
 use Rattle.copying.proofs.FairCopies as fair
-use Rattle.copying.proofs.Older.{fair-older, older-same}
-use Rattle.trimming.specs.TrimmedCopy.{trimmedWords}
+use Rattle.copying.proofs.Older.{copy-earlier, fair-older, older-same}
+use Rattle.trimming.specs.TrimmedCopy.{trimmed, trimmedWords}
 use Rattle.trimming.proofs.TrimmedCopies as trimming
 use Rattle.report.specs.Report.{outcomeAnswer, asked, cleared, Paired, Reported, LoopShown, Passes, Left}
 use Rattle.report.specs.Accepted.{Accepted, LentEnough}
@@ -416,7 +416,7 @@ pub trim-loop-fits : (m : Ceilings) (l : List ℕ) (n t : ℕ) → questions m l
 trim-loop-fits = trimming.trim-loop-fits
 
 -- 9. Of every older log, one in which the number of each to word is below 65,536: it has pause 0 everywhere, and the graph, the answer to questions
--- 1 to 10 and the fair copy that it had before to words had pauses. What it had is said by the definitions as they were then.
+-- 1 to 10, the fair copy and the trimmed copy that it had before to words had pauses. What it had is said by the definitions as they were then.
 module _ (l : List ℕ) (older : Older l) where
   pub older-pauses : (a b p : ℕ) → HeardOf (contentOf l) a b p → p ≡ 0
   older-pauses a b p m = no-pause l older _ m
@@ -429,3 +429,6 @@ module _ (l : List ℕ) (older : Older l) where
 
   pub older-fair : fairWords (contentOf l) ≡ earlier-copy.fairWords (earlier.graphOf l)
   older-fair = fair-older l older
+
+  pub older-trimmed : trimmedWords (graphOf l) ≡ earlier-copy.fairWords (trimmed (earlier.graphOf l))
+  older-trimmed = copy-earlier (trimmed (graphOf l)) ∙ ap (λ (g : Graph). earlier-copy.fairWords (trimmed g)) (graph-older l older)

@@ -22,12 +22,11 @@ use lib.ListN.{length, getD}
 use Rattle.log.specs.Words.{kind, toEpisode}
 use Rattle.log.specs.Content.{joins}
 use Rattle.log.proofs.Links.{linksBefore, nearestFrom}
-use Rattle.log.proofs.Words.{figure-from, figure-to}
-use Rattle.log.proofs.Laws.{well-formed, to-word, before-head, pass-from, pass-to, links-to, heard-passed}
+use Rattle.log.proofs.Laws.{well-formed, from-word, to-word, before-head, pass-from, pass-to, links-to, heard-passed}
 use Rattle.bits.specs.Bits.{bit, BitSet}
 use Rattle.bits.specs.Work.{linksAt, waysAt, Matrix, Outside, nextAt}
 use Rattle.bits.proofs.Rows.{bits-zero}
-use Rattle.log.specs.Log.{figure, PassedLog}
+use Rattle.log.specs.Log.{PassedLog}
 use Rattle.reach.specs.Reach.{Marked, WordTaken, LinksMarked}
 use Rattle.bits.proofs.Frames.{outside-none, outside-then, outside-wider, set-other, set-outside}
 
@@ -91,19 +90,12 @@ marking-start l w (m, n, t, e, few) zeros =
 
 -- what holds of the word at a place between head and end
 module _ (l w w′ : List ℕ) (from p : ℕ) (passed : PassedLog l) (s : Marking l w w′ from p) (inner : p + 1 < length l) where
-  -- what question 7 looks at is an episode's number
-  below : figure (getD l p 0) < 256
-  below =
-      let (m, n, t, e, few) = passed in
-      let b : figure (getD l p 0) < n = well-formed m l n t e .below p (s .behind) inner in
-      omega arith
-
-  to-here : (kind (getD l p 0) ≡ 2 → ⊥) → (kind (getD l p 0) ≡ 3) × (1 < p)
-  to-here other = let (m, n, t, e, few) = passed in to-word m l n t e p (s .behind) inner other
+  to-here : (kind (getD l p 0) ≡ 2 → ⊥) → (kind (getD l p 0) ≡ 3) × (1 < p) × (toEpisode (getD l p 0) < 256)
+  to-here = to-word l passed p (s .behind) inner
 
   -- before a to word a from word has come, and both give episodes
   pub ends-below : (kind (getD l p 0) ≡ 2 → ⊥) → (from < 256) × (toEpisode (getD l p 0) < 256)
-  ends-below other = (s .nearest (to-here other .1) .1, rw (figure-to _ (to-here other .0)) at below)
+  ends-below other = (s .nearest (to-here other .1) .1, to-here other .2)
 
   pub marking-on : {r : ℕ} {w″ : List ℕ} → WordTaken (getD l p 0) from r w′ w″ → Marking l w w″ r (p + 1)
   marking-on {r} {w″} d = go (ℕ-discrete (kind (getD l p 0)) 2)
@@ -117,7 +109,7 @@ module _ (l w w′ : List ℕ) (from p : ℕ) (passed : PassedLog l) (s : Markin
             behind = omega arith;
             within = inner;
             links = rw (kept, same) (s .links);
-            nearest = λ h. (cc, rw (new, ← figure-from _ k) below);
+            nearest = λ h. (cc, rw new (from-word l passed p (s .behind) inner k));
           }
       go (no other) =
           let (heard, near) = pass-to l p (s .behind) (s .within) (to-here other .0) in
@@ -128,7 +120,7 @@ module _ (l w w′ : List ℕ) (from p : ℕ) (passed : PassedLog l) (s : Markin
             outside = outside-then (s .outside) (q .outside);
             behind = omega arith;
             within = inner;
-            links = rw (more, ← is-nearest) (matrix-more from (toEpisode (getD l p 0)) low (ends-below other .1) (s .links) q);
+            links = rw (more, ← is-nearest) (matrix-more from (toEpisode (getD l p 0)) low (to-here other .2) (s .links) q);
             nearest = λ h. (cc, rw same low);
           }
 

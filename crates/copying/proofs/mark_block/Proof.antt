@@ -5,7 +5,8 @@ use mathlib.Core.Path.{_∙_}
 use Prim.Native.Nat.{_-_}
 use native.Mathlib.Omega.{arith}
 use lib.ListN.{length}
-use Rattle.copying.proofs.Rows.{Marking, marking-start, marking-on, marking-end, episode-below}
+use Rattle.log.proofs.Laws.{to-word}
+use Rattle.copying.proofs.Rows.{Marking, marking-start, marking-on, marking-end}
 use Rattle.copying.proofs.mark_block.Statement.{statement}
 use Rattle.copying.proofs.mark_block.Tie as tie
 
@@ -33,8 +34,7 @@ take-word-requires : tie.Need-take-word-requires Inv-loop μ-loop
 take-word-requires c κs =
     let s = c .before .before .before .before .before .before in
     let at = c .before .before .before .loop in (
-      episode-below (s .args .log .now) (s .args .w .now) (at .w) (s .args .block) (at .from) (at .at) (s .pre .0) (at .inv)
-          (omega arith),
+      λ other. to-word (s .args .log .now) (s .pre .0) (at .at) (at .inv .behind) (omega arith) other .2,
       at .inv .same-length ∙ s .pre .1,
     )
 
