@@ -32,6 +32,13 @@ unfolding bit
 bits-zero w row b e =
     ap (λ (x : ℕ). digit x (b % 32)) e ∙ digit-none (b % 32)
 
+-- the words of all rows of a matrix that hold their bit `b` stand 8 words apart
+pub bit-column : (w : List ℕ) (base a b : ℕ) → bit w (base + 8 * a) b ≡ digit (getD w (base + b / 32 + 8 * a) 0) (b % 32)
+unfolding bit
+bit-column w base a b =
+    let e : base + 8 * a + b / 32 ≡ base + b / 32 + 8 * a = omega arith in
+    ap (λ (i : ℕ). digit (getD w i 0) (b % 32)) e
+
 -- ---- one bit set
 
 pub set-bit-law : (w : List ℕ) (row b : ℕ) → row + b / 32 < length w

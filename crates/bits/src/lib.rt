@@ -1,8 +1,8 @@
 // Rows of bits in lent words: 8 words, 256 bits, to a row.
 ghost use mathlib.Core.Path.{_≡_};
 ghost use Prim.Native.Nat.{_+_, _-_, _*_, _/_, _<_, _≤_};
-ghost use lib.ListN.{length, replicate};
-ghost use Rattle.bits.specs.Bits.{bit, BitSet, RowJoined, RowAdded, RowCopied, FirstBit, NextNew};
+ghost use lib.ListN.{length, getD, replicate};
+ghost use Rattle.bits.specs.Bits.{digit, bit, BitSet, RowJoined, RowAdded, RowCopied, FirstBit, NextNew};
 
 // The regions of the work words: the links and the ways, each a row of bits for each episode; the tables of the search, 256 words each;
 // the bits of what it has seen, of what earlier searches have seen in vain, and bits of which none is set.
@@ -26,12 +26,20 @@ pub const NONE: usize = 5136;
 
 pub const USED: usize = 5144;
 
+// Digit `d` of the word at `at`.
+pub fn digit_at(w: &[u32], at: usize, d: usize) -> u32
+    requires { ⌜ (at < length (now w)) × (d < 32) ⌝ }
+    ensures { λ r. ⌜ r ≡ digit (getD (now (w .entry)) at 0) d ⌝ }
+{
+    (w[at] >> d) % 2
+}
+
 // Bit `b` of the row that starts at word `row`.
 pub fn bit_at(w: &[u32], row: usize, b: usize) -> u32
     requires { ⌜ row + b / 32 < length (now w) ⌝ }
     ensures { λ r. ⌜ r ≡ bit (now (w .entry)) row b ⌝ }
 {
-    (w[row + b / 32] >> (b % 32)) % 2
+    digit_at(w, row + b / 32, b % 32)
 }
 
 // Sets bit `b` of the row that starts at word `row`.

@@ -1,31 +1,19 @@
--- `bits::bit_at` meets its contract: a shift to the right is a division by a power of two.
+-- `bits::bit_at` meets its contract: a bit of a row is a digit of its word.
 -- Assumes nothing.
 use borrow.Author.Needs.{needs}
-use mathlib.Core.Path.{refl}
 use Rattle.bits.specs.Bits.{bit}
 use Rattle.bits.proofs.bit_at.Statement.{statement}
 use Rattle.bits.proofs.bit_at.Tie as tie
 
-add-result : tie.Need-add-result
-add-result c = search needs
+add-digit-at : tie.Need-add-digit-at
+add-digit-at c = search needs
 
-mul-result : tie.Need-mul-result
-mul-result c = search needs
-
-shared-slice-read-result : tie.Need-shared-slice-read-result
-shared-slice-read-result c = search needs
-
-cast-result : tie.Need-cast-result
-cast-result c = search needs
-
-shr-result : tie.Need-shr-result
-shr-result c = search needs
+digit-at-requires : tie.Need-digit-at-requires
+digit-at-requires c κs = search needs
 
 returns : tie.Need-returns
 unfolding bit
-returns c = refl
+returns c = c .digit-at .ensures
 
 pub bit-at-spec : {M : Type 1} → statement M
-bit-at-spec =
-    tie.close
-    (tie.spec add-result mul-result shared-slice-read-result cast-result shr-result returns)
+bit-at-spec = tie.close (tie.spec add-digit-at digit-at-requires returns)
