@@ -1,4 +1,4 @@
--- A thread that is being written: the chain's episodes up to a target, with the links of paths between them.
+-- A thread that is being written: the chain's episodes up to one, with the links of paths between them.
 use mathlib.Core.Path.{_≡_, refl, sym, ap, subst, _∙_}
 use mathlib.Core.Logic.{_⊎_, inl, inr, ⊎-elim}
 use mathlib.Core.List.{
@@ -8,18 +8,18 @@ use mathlib.Core.List.{
   _++_,
   map,
   map-append,
+  append-assoc,
   List·Memᴰ as Mem,
   List·Memᴰ·head as here,
-  List·Memᴰ·eq-of-singleton as eq-of-singleton,
   List·Memᴰ·append-cases as append-cases,
   Memᴰ·append-left,
   Memᴰ·append-right,
 }
-use Prim.Native.Nat.{ℕ, _+_, _*_, _≤_, _<_}
+use Prim.Native.Nat.{ℕ, _+_, _-_, _*_, _≤_, _<_}
 use native.Mathlib.Omega.{arith}
-use lib.ListN.{length, getD, set, length-map}
-use Rattle.order.specs.Order.{Chain, single, more}
-use Rattle.paths.specs.Graph.{Graph, Episode, Link, Thread}
+use lib.ListN.{length, getD, set, take, drop, length-map, length-append, length-drop}
+use Rattle.order.specs.Order.{Chain, more}
+use Rattle.paths.specs.Graph.{Graph, Thread}
 use Rattle.paths.proofs.Threads.{thread-single}
 use Rattle.paths.proofs.Fits.{thread-nodup}
 use Rattle.paths.proofs.Numbers.{nodup-below}
@@ -30,50 +30,40 @@ use Rattle.searching.specs.Items.{Steps}
 use Rattle.searching.specs.State.{tables}
 use Rattle.chains.proofs.Steps.{steps-trans, steps-same, steps-first, steps-last, steps-end, next-below, steps-below, steps-join}
 use Rattle.writing.specs.Layout.{BeginsWith, threadWords}
-use Rattle.writing.specs.Writing.{Solved, StartOf, HopTo, ThreadWritten}
-use Rattle.writing.proofs.Buffers.{length-snoc, begins-length, begins-more, begins-first, begins-second, begins-over}
+use Rattle.writing.specs.Path.{PathWritten}
+use Rattle.writing.specs.Writing.{Solved, StartOf, ThreadWritten}
+use Rattle.writing.proofs.Buffers.{length-snoc, begins-length, begins-first, begins-second, begins-over, begins-part, lent-part, lent-rest}
 
-chain-snoc : {A : Type 0} {R : A → A → Type 0} {a b : A} (l : List A) → Chain R (l ++ (a ∷ [])) → R a b
-    → Chain R (l ++ (a ∷ []) ++ (b ∷ []))
-chain-snoc [] c r = more r single
-chain-snoc (x ∷ []) (more q c) r = more q (chain-snoc [] c r)
-chain-snoc (x ∷ y ∷ l) (more q c) r = more q (chain-snoc (y ∷ l) c r)
+chain-join : {A : Type 0} {R : A → A → Type 0} {a : A} {p : List A} (l : List A) → Chain R (l ++ (a ∷ [])) → Chain R (a ∷ p) → Chain R (l ++ (a ∷ p))
+chain-join [] c d = d
+chain-join (x ∷ []) (more q c) d = more q d
+chain-join (x ∷ y ∷ l) (more q c) d = more q (chain-join (y ∷ l) c d)
 
--- a thread goes on by a link from its last episode
-thread-snoc : {g : Graph} {a b : ℕ} (l : List ℕ) → Thread g (l ++ (a ∷ [])) → Link g a b → Episode g b
-    → Thread g (l ++ (a ∷ []) ++ (b ∷ []))
-thread-snoc {g} {a} {b} l t r h =
+-- a thread goes on by a thread from its last episode
+thread-join : {g : Graph} {a : ℕ} {p : List ℕ} (l : List ℕ) → Thread g (l ++ (a ∷ [])) → Thread g (a ∷ p) → Thread g (l ++ (a ∷ p))
+thread-join {a = a} l t u =
     record {
-      episodes = λ x m. ⊎-elim (t .episodes x) (λ n. subst (Episode g) (sym (eq-of-singleton n)) h) (append-cases (l ++ (a ∷ [])) m);
-      path = chain-snoc l (t .path) r;
+      episodes = λ x m. ⊎-elim (λ k. t .episodes x (Memᴰ·append-left (a ∷ []) k)) (u .episodes x) (append-cases l m);
+      path = chain-join l (t .path) (u .path);
     }
 
--- The words behind the first are the steps of a thread from the start of the chain of `v` to `at`. It holds what the chain has before
--- `target`, to which the thread goes on.
-pub record Filling (w : List ℕ) (n v : ℕ) (o o′ : List ℕ) (at target count : ℕ) : Type 0 where
+-- The words behind the first are the steps of a thread that ends at `at`. It holds what the start of the chain of `v` leads to, but for what
+-- is behind `at`.
+pub record Filling (w : List ℕ) (n v : ℕ) (o o′ : List ℕ) (at count : ℕ) : Type 0 where
   pub before : List ℕ
   pub first : ℕ
   pub start : ℕ
   pub starts : StartOf w v start
   pub start-below : start < n
-  pub size : count ≡ length before + 1
+  pub size : count ≡ length before + 2
   pub words : BeginsWith (first ∷ map (word 7) (before ++ (at ∷ []))) o o′
   pub at-below : at < n
-  pub target-below : target < n
   pub thread : (g : Graph) → Solved g n w → Thread g (before ++ (at ∷ []))
-  pub holds : (x : ℕ) → Steps (tables w .next) start x → Mem x (before ++ (at ∷ [])) ⊎ Steps (tables w .next) target x
-
--- the thread has come to the target, or there is a way to it
-abbrev pub Nearer : List ℕ → ℕ → ℕ → Type 0
-Nearer w at target = (at ≡ target) ⊎ (bit w (waysAt + 8 * at) target ≡ 1)
-
--- a way leads from the thread's last step to the target
-abbrev pub Ahead : List ℕ → ℕ → ℕ → List ℕ → List ℕ → ℕ → ℕ → ℕ → Type 0
-Ahead w n v o o′ at target count = Filling w n v o o′ at target count × (bit w (waysAt + 8 * at) target ≡ 1)
+  pub holds : (x : ℕ) → Steps (tables w .next) start x → Mem x (before ++ (at ∷ [])) ⊎ Steps (tables w .next) at x
 
 module _ {w : List ℕ} {n s : ℕ} (o : List ℕ) (below : s < n) where
   -- a thread of one step
-  pub filling-starts : {v : ℕ} → StartOf w v s → 1 < length o → Filling w n v (set o 1 (word 7 s)) (set o 1 (word 7 s)) s s 1
+  pub filling-starts : {v : ℕ} → StartOf w v s → 1 < length o → Filling w n v (set o 1 (word 7 s)) (set o 1 (word 7 s)) s 2
   filling-starts h l =
       record {
         before = [];
@@ -84,7 +74,6 @@ module _ {w : List ℕ} {n s : ℕ} (o : List ℕ) (below : s < n) where
         size = refl;
         words = begins-second (word 7 s) o l;
         at-below = below;
-        target-below = below;
         thread = λ g q. thread-single (rw (q .count) below);
         holds = λ x p. inr p;
       }
@@ -93,12 +82,28 @@ module _ {w : List ℕ} {n s : ℕ} (o : List ℕ) (below : s < n) where
   pub starts-room : {g : Graph} → Solved g n w → ((th : List ℕ) → Thread g th → length th + 1 ≤ length o) → 1 < length o
   starts-room q room = room (s ∷ []) (thread-single (rw (q .count) below))
 
-module _ {w : List ℕ} {n v : ℕ} {o o′ : List ℕ} {at target count : ℕ} (f : Filling w n v o o′ at target count) where
+module _ {w : List ℕ} {n v : ℕ} {o o′ : List ℕ} {at count : ℕ} (f : Filling w n v o o′ at count) where
   pub filling-length : length o′ ≡ length o
   filling-length = begins-length (f .first ∷ map (word 7) (f .before ++ (at ∷ []))) o o′ (f .words)
 
+  -- the first word and the steps
+  filling-count : length (f .first ∷ map (word 7) (f .before ++ (at ∷ []))) ≡ count
+  filling-count =
+      let a = length-map (f .before ++ (at ∷ [])) (word 7) in
+      let b = length-snoc (f .before) at in
+      let c = f .size in
+      omega arith
+
+  -- they are some of the buffer's
+  pub filling-at : count ≤ length o′
+  filling-at =
+      let le : length (f .first ∷ map (word 7) (f .before ++ (at ∷ []))) ≤ length o = f .words .0 in
+      let e = filling-count in
+      let l = filling-length in
+      omega arith
+
   -- the thread of a graph has at most as many steps as there are episodes
-  pub filling-le : {g : Graph} → Solved g n w → count ≤ n
+  pub filling-le : {g : Graph} → Solved g n w → count ≤ n + 1
   filling-le {g} q =
       let th = f .thread g q in
       let le : length (f .before ++ (at ∷ [])) ≤ g .n =
@@ -108,129 +113,100 @@ module _ {w : List ℕ} {n v : ℕ} {o o′ : List ℕ} {at target count : ℕ} 
       let c = q .count in
       omega arith
 
-  -- at the target: the next one
-  pub filling-next : {g : Graph} → Solved g n w → (next : ℕ) → at ≡ target → tables w .next at ≡ next + 1
-      → Ahead w n v o o′ at next count
-  filling-next q next e h = (
-    record {
-      before = f .before;
-      first = f .first;
-      start = f .start;
-      starts = f .starts;
-      start-below = f .start-below;
-      size = f .size;
-      words = f .words;
-      at-below = f .at-below;
-      target-below = below;
-      thread = f .thread;
-      holds = λ x p. ⊎-elim inl (λ r. ⊎-elim (λ m. inl (here-last x m)) inr (steps-first from r)) (f .holds x p);
-    },
-    q .ways .complete at next (let few = q .few in let la = f .at-below in omega arith) (let few = q .few in let lt = below in omega arith)
-        (q .pairs at next (f .at-below) below h),
-  )
-    where
-      below : next < n
-      below = next-below (q .matching) (f .at-below) h
+  -- what goes on from `at` fits into the part behind the words
+  pub filling-room : {g : Graph} → Solved g n w → ((th : List ℕ) → Thread g th → length th + 1 ≤ length o) → (p : List ℕ) → Thread g (at ∷ p)
+      → length p ≤ length (take (length o′ - count) (drop count o′))
+  filling-room {g} q room p t =
+      let le = room (f .before ++ (at ∷ p)) (thread-join (f .before) (f .thread g q) t) in
+      let e = length-append (f .before) (at ∷ p) in
+      let c = f .size in
+      let l = filling-length in
+      let d = length-drop count o′ in
+      rw (lent-part o′ count) (omega arith)
 
-      from : tables w .next target ≡ next + 1
-      from = ap (tables w .next) (sym e) ∙ h
+  module _ {target : ℕ} (next : tables w .next at ≡ target + 1) where
+    -- a way leads to the next of the chain
+    pub next-way : {g : Graph} → Solved g n w → (target < n) × (bit w (waysAt + 8 * at) target ≡ 1)
+    next-way q = (
+      below,
+      q .ways .complete at target (let few = q .few in let l = f .at-below in omega arith) (let few = q .few in let l = below in omega arith)
+          (q .pairs at target (f .at-below) below next),
+    )
+      where
+        below : target < n
+        below = next-below (q .matching) (f .at-below) next
 
-      here-last : (x : ℕ) → target ≡ x → Mem x (f .before ++ (at ∷ []))
-      here-last x m = Memᴰ·append-right (f .before) (here (sym m ∙ sym e))
+    -- the steps of a path to it are written behind the others
+    path-more : {g : Graph} → Solved g n w → (p : List ℕ) (r : ℕ) → PathWritten w (drop count o′) p n at target r
+        → Filling w n v o (take count o′ ++ p) target (count + r)
+    path-more q p r t =
+        record {
+          before = f .before ++ (at ∷ t .between);
+          first = f .first;
+          start = f .start;
+          starts = f .starts;
+          start-below = f .start-below;
+          size =
+              let e = length-append (f .before) (at ∷ t .between) in
+              let a = f .size in
+              let b = t .size in
+              omega arith;
+          words =
+              subst (λ (ws : List ℕ). BeginsWith (f .first ∷ ws) o (take count o′ ++ p))
+              (sym (ap (map (word 7)) whole ∙ map-append (word 7) (f .before ++ (at ∷ [])) (t .between ++ (target ∷ []))))
+              (begins-part (f .first ∷ map (word 7) (f .before ++ (at ∷ []))) o o′ (f .words) (map (word 7) (t .between ++ (target ∷ []))) p count
+              (sym filling-count) (t .words));
+          at-below = next-way q .0;
+          thread = λ g′ q′.
+              rw (append-assoc (f .before) (at ∷ t .between) (target ∷ [])) (thread-join (f .before) (f .thread g′ q′) (t .of g′ q′));
+          holds = λ x m.
+              ⊎-elim (λ k. inl (there x k))
+              (λ k. ⊎-elim (λ e. inl (there x (Memᴰ·append-right (f .before) (here (sym e))))) inr (steps-first next k)) (f .holds x m);
+        }
+      where
+        whole : (f .before ++ (at ∷ t .between)) ++ (target ∷ []) ≡ (f .before ++ (at ∷ [])) ++ (t .between ++ (target ∷ []))
+        whole =
+            append-assoc (f .before) (at ∷ t .between) (target ∷ [])
+            ∙ sym (append-assoc (f .before) (at ∷ []) (t .between ++ (target ∷ [])))
 
-  -- before the target: the same
-  pub filling-same : (t : ℕ) → Nearer w at target → (at ≡ target → ⊥) → t ≡ target → Ahead w n v o o′ at t count
-  filling-same t near ne e =
-      subst (λ (x : ℕ). Ahead w n v o o′ at x count) (sym e) (f, ⊎-elim (λ m. absurd (ne m)) (λ b. b) near)
+        there : (x : ℕ) → Mem x (f .before ++ (at ∷ [])) → Mem x ((f .before ++ (at ∷ t .between)) ++ (target ∷ []))
+        there x k = rw whole (Memᴰ·append-left (t .between ++ (target ∷ [])) k)
 
-  module _ {g : Graph} {r : ℕ} (q : Solved g n w) (h : HopTo w at target r) where
-    next-link : Link g at r
-    next-link = q .links .sound at r (let few = q .few in let la = f .at-below in omega arith) (h .below) (h .link)
-
-    hop-below : r < n
-    hop-below = let e = q .count in let lt : r < g .n = q .ends at r next-link .1 in omega arith
-
-    -- the thread with one step more
-    filling-thread : Thread g (f .before ++ (at ∷ []) ++ (r ∷ []))
-    filling-thread = thread-snoc (f .before) (f .thread g q) next-link (q .ends at r next-link .1)
-
-    longer : length (f .before ++ (at ∷ []) ++ (r ∷ [])) ≡ count + 1
-    longer =
-        let a = length-snoc (f .before ++ (at ∷ [])) r in
-        let b = length-snoc (f .before) at in
-        let c = f .size in
-        omega arith
-
-    -- it fits where every thread does
-    pub filling-room : ((th : List ℕ) → Thread g th → length th + 1 ≤ length o) → count + 1 < length o
-    filling-room room =
-        let le = room (f .before ++ (at ∷ []) ++ (r ∷ [])) filling-thread in
-        let e = longer in
-        omega arith
-
-    pub filling-less : count < n
-    filling-less =
-        let le : length (f .before ++ (at ∷ []) ++ (r ∷ [])) ≤ g .n =
-        nodup-below (g .n) (f .before ++ (at ∷ []) ++ (r ∷ [])) (thread-nodup (q .acyclic) filling-thread) (filling-thread .episodes) in
-        let e = longer in
-        let c = q .count in
-        omega arith
-
-  -- one step more
-  pub filling-more : {g : Graph} {r : ℕ} → Solved g n w → HopTo w at target r → (i : ℕ) → i ≡ count + 1 → i < length o
-      → Filling w n v o (set o′ i (word 7 r)) r target i
-  filling-more {r = r} q h i e l =
-      record {
-        before = f .before ++ (at ∷ []);
-        first = f .first;
-        start = f .start;
-        starts = f .starts;
-        start-below = f .start-below;
-        size = let b = length-snoc (f .before) at in let c = f .size in omega arith;
-        words =
-            subst (λ (ws : List ℕ). BeginsWith ws o (set o′ i (word 7 r)))
-            (ap (λ (ws : List ℕ). f .first ∷ ws) (sym (map-append (word 7) (f .before ++ (at ∷ [])) (r ∷ []))))
-            (begins-more (f .first ∷ map (word 7) (f .before ++ (at ∷ []))) o o′ (f .words) i (word 7 r)
-            (let b = length-snoc (f .before) at in
-            let c = f .size in
-            let d = length-map (f .before ++ (at ∷ [])) (word 7) in
-            omega arith) l);
-        at-below = hop-below q h;
-        target-below = f .target-below;
-        thread = λ g′ q′. filling-thread q′ h;
-        holds = λ x p. ⊎-elim (λ m. inl (Memᴰ·append-left (r ∷ []) m)) inr (f .holds x p);
-      }
+    -- the same, as the part that was lent comes back
+    pub filling-more : {g : Graph} → Solved g n w → {p : List ℕ} {r : ℕ} → PathWritten w (take (length o′ - count) (drop count o′)) p n at target r
+        → Filling w n v o (take count o′ ++ (p ++ drop (length o′ - count) (drop count o′))) target (count + r)
+    filling-more q {p} {r} t = rw (lent-rest o′ p count) (path-more q p r (rw (lent-part o′ count) at t))
 
   -- at the end of the chain
-  pub filling-ends : at ≡ target → tables w .next at ≡ 0 → ThreadWritten w o (set o′ 0 (word 6 count)) n v (count + 1)
+  pub filling-ends : tables w .next at ≡ 0 → ThreadWritten w o (set o′ 0 (word 6 (count - 1))) n v count
   unfolding threadWords
-  filling-ends e z =
+  filling-ends z =
       record {
         thread = th;
         size = let d = length-map th (word 7) in let s = size in omega arith;
         words =
-            subst (λ (k : ℕ). BeginsWith (word 6 k ∷ map (word 7) th) o (set o′ 0 (word 6 count))) (sym size)
-            (begins-first (f .first) (word 6 count) (map (word 7) th) o o′ (f .words));
+            subst (λ (k : ℕ). BeginsWith (word 6 k ∷ map (word 7) th) o (set o′ 0 (word 6 (count - 1)))) (sym size)
+            (begins-first (f .first) (word 6 (count - 1)) (map (word 7) th) o o′ (f .words));
         of = λ g q. record { thread = f .thread g q; holds = holds g q };
       }
     where
       th : List ℕ
       th = f .before ++ (at ∷ [])
 
-      size : length th ≡ count
+      size : length th ≡ count - 1
       size = let b = length-snoc (f .before) at in let c = f .size in omega arith
 
       s : ℕ
       s = f .start
 
-      last : Mem target th
-      last = Memᴰ·append-right (f .before) (here (sym e))
+      last : Mem at th
+      last = Memᴰ·append-right (f .before) (here refl)
 
       -- what the start leads to is on the thread
       behind : (x : ℕ) → Steps (tables w .next) s x → Mem x th
       behind x p =
           ⊎-elim (λ m. m)
-          (λ r. subst (λ (y : ℕ). Mem y th) (steps-end (ap (tables w .next) (sym e) ∙ z) r) last)
+          (λ r. subst (λ (y : ℕ). Mem y th) (steps-end z r) last)
           (f .holds x p)
 
       -- what leads to the start is the start
@@ -249,6 +225,12 @@ module _ {w : List ℕ} {n v : ℕ} {o o′ : List ℕ} {at target count : ℕ} 
       holds g q x h (inl p) =
           let lt : x < n = rw (q .count) at h in
           behind x (⊎-elim (λ r. r) (before g q x lt) (steps-join (q .matching) (f .start-below) lt (f .starts .steps) p))
+
+-- with the path there are more words, and at most as many as a thread has
+pub filling-less : {w : List ℕ} {n v : ℕ} {o o′ : List ℕ} {at target count : ℕ} (f : Filling w n v o o′ at count) → tables w .next at ≡ target + 1
+    → {g : Graph} → Solved g n w → {p : List ℕ} {r : ℕ} → PathWritten w (take (length o′ - count) (drop count o′)) p n at target r
+    → (0 < r) × (count + r ≤ n + 1)
+filling-less f next q t = (let e = t .size in omega arith, filling-le (filling-more f next q t) q)
 
 -- what was stored there before does not matter
 pub written-over : {w o o′ : List ℕ} {n v r : ℕ} (x : ℕ) → 1 < r → ThreadWritten w (set o 1 x) o′ n v r → ThreadWritten w o o′ n v r

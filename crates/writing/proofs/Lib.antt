@@ -6,6 +6,7 @@ pub mod Listing
 pub mod Apart
 pub mod Starts
 pub mod Hops
+pub mod Stepping
 pub mod Filling
 pub mod Bundling
 pub mod Reporting

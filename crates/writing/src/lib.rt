@@ -1,6 +1,6 @@
 // Writes the words of a report or of a loop, from the chains in the work words.
 ghost use mathlib.Core.Path.{_≡_};
-ghost use mathlib.Core.List.{List};
+ghost use mathlib.Core.List.{List, _∷_};
 ghost use Prim.Native.Nat.{ℕ, _+_, _*_, _-_, _<_, _≤_};
 ghost use lib.ListN.{length};
 ghost use Rattle.paths.specs.Graph.{Graph, Thread, Loop};
@@ -9,6 +9,7 @@ ghost use Rattle.bits.specs.Work.{waysAt, usedWords};
 ghost use Rattle.searching.specs.Items.{Matching, memberTest, members};
 ghost use Rattle.searching.specs.State.{tables};
 ghost use Rattle.writing.specs.Layout.{reportNeed};
+ghost use Rattle.writing.specs.Path.{PathWritten};
 ghost use Rattle.writing.specs.Writing.{Solved, ApartWritten, StartOf, HopTo, ThreadWritten, ThreadsWritten, ReportWritten, Looping, LoopWritten};
 use bits::LINKS;
 use bits::NEXT;
@@ -86,14 +87,35 @@ fn hop(w: &[u32], n: usize, c: usize, b: usize) -> usize
     if bits::bit_at(w, row, b) == 1 {
         return b;
     }
+    // Where each row of ways has its bit `b`.
+    let column = WAYS + b / 32;
+    let digit = b % 32;
     let mut x = bits::next_new(w, row, NONE, 0);
     while x < n {
-        if bits::bit_at(w, WAYS + 8 * x, b) == 1 {
+        if bits::digit_at(w, column + 8 * x, digit) == 1 {
             return x;
         }
         x = bits::next_new(w, row, NONE, x + 1);
     }
     b
+}
+
+// Writes the steps of a path from `c` to `b` but for `c`, and gives their count.
+fn write_path(w: &[u32], n: usize, c: usize, b: usize, out: &mut [u32]) -> usize
+    requires { ⌜ ((g : Graph) × Solved g n (now w) × ((p : List ℕ) → Thread g (c ∷ p) → length p ≤ length (now out))) × (c < n) × (b < n)
+        × (bit (now w) (waysAt + 8 * c) b ≡ 1) ⌝ }
+    ensures { λ r. ⌜ PathWritten (now (w .entry)) (now (out .entry)) (now (out .exit)) n c b r ⌝ }
+{
+    let mut at = c;
+    let mut count = 0;
+    loop {
+        at = hop(w, n, at, b);
+        out[count] = STEP + at as u32;
+        count += 1;
+        if at == b {
+            return count;
+        }
+    }
 }
 
 // Writes a thread that holds the chain of `v`, and gives the count of its words. Each step of the chain, which is a way, is filled with
@@ -103,23 +125,17 @@ fn write_thread(w: &[u32], n: usize, v: usize, out: &mut [u32]) -> usize
     ensures { λ r. ⌜ ThreadWritten (now (w .entry)) (now (out .entry)) (now (out .exit)) n v r ⌝ }
 {
     let mut at = chain_start(w, v);
-    let mut target = at;
-    let mut count = 1;
+    let mut count = 2;
     out[1] = STEP + at as u32;
-    loop {
-        if at == target {
-            let next = w[NEXT + at] as usize;
-            if next == 0 {
-                break;
-            }
-            target = next - 1;
-        }
-        at = hop(w, n, at, target);
-        count += 1;
-        out[count] = STEP + at as u32;
+    let mut next = w[NEXT + at] as usize;
+    while next != 0 {
+        let target = next - 1;
+        count += write_path(w, n, at, target, &mut out[count..]);
+        at = target;
+        next = w[NEXT + at] as usize;
     }
-    out[0] = THREAD + count as u32;
-    count + 1
+    out[0] = THREAD + (count - 1) as u32;
+    count
 }
 
 // Writes a thread for each member of the apart set, and gives the count of their words.

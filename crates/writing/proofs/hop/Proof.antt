@@ -2,15 +2,17 @@
 -- Assumes nothing.
 use Prim.Native.Nat.{_-_}
 use native.Mathlib.Omega.{arith}
+use Rattle.bits.specs.Work.{waysAt}
+use Rattle.bits.proofs.Rows.{bit-column}
 use Rattle.writing.proofs.Hops.{Hopping, hop-first, hop-next, hop-done, hop-there, hop-nearer}
 use Rattle.writing.proofs.hop.Statement.{statement}
 use Rattle.writing.proofs.hop.Tie as tie
 
 abbrev Inv-loop : tie.InvT-loop
-Inv-loop w n c b row x₀ x = Hopping w c b x
+Inv-loop w n c b row column digit x₀ x = Hopping w c b x
 
 abbrev μ-loop : tie.MeasureT-loop
-μ-loop w n c b row x₀ x = n - x
+μ-loop w n c b row column digit x₀ x = n - x
 
 mul-row : tie.Need-mul-row Inv-loop μ-loop
 mul-row c = omega arith
@@ -26,6 +28,9 @@ returns c =
     let a = c .before .before .before .args in
     hop-there (a .w .now) (a .c) (a .b) (omega arith) (omega arith)
 
+add-column : tie.Need-add-column Inv-loop μ-loop
+add-column c = omega arith
+
 next-new-requires : tie.Need-next-new-requires Inv-loop μ-loop
 next-new-requires c κs = omega arith
 
@@ -35,20 +40,21 @@ loop-holds c =
     let a = b .args in
     hop-first (a .w .now) (a .n) (a .c) (a .b) (b .pre .0) (c .next-new .result) (c .next-new .ensures)
 
-mul-bit-at : tie.Need-mul-bit-at Inv-loop μ-loop
-mul-bit-at c = omega arith
+mul-digit-at : tie.Need-mul-digit-at Inv-loop μ-loop
+mul-digit-at c = omega arith
 
-add-bit-at : tie.Need-add-bit-at Inv-loop μ-loop
-add-bit-at c = omega arith
+add-digit-at : tie.Need-add-digit-at Inv-loop μ-loop
+add-digit-at c = omega arith
 
-bit-at-requires-2 : tie.Need-bit-at-requires-2 Inv-loop μ-loop
-bit-at-requires-2 c κs = omega arith
+digit-at-requires : tie.Need-digit-at-requires Inv-loop μ-loop
+digit-at-requires c κs = omega arith
 
 returns-2 : tie.Need-returns-2 Inv-loop μ-loop
 returns-2 c =
     let a = c .before .before .before .before .before .before .before .before .args in
     let at = c .before .before .before .loop in
-    hop-nearer (a .w .now) (a .c) (a .b) (at .x) (at .inv) (omega arith) (omega arith)
+    hop-nearer (a .w .now) (a .c) (a .b) (at .x) (at .inv) (omega arith)
+    (omega (arith, bit-column (a .w .now) waysAt (at .x) (a .b)))
 
 add-next-new : tie.Need-add-next-new Inv-loop μ-loop
 add-next-new c = omega arith
@@ -64,7 +70,8 @@ loop-again c =
     let b = c .before .before .before .before .before .before .before .before .before in
     let a = b .args in
     let at = c .before .before .before .before .loop in
-    hop-next (a .w .now) (a .n) (a .c) (a .b) (b .pre .0) (at .x) (c .next-new2 .result) (at .inv) (λ e. omega arith) (c .next-new2 .ensures)
+    hop-next (a .w .now) (a .n) (a .c) (a .b) (b .pre .0) (at .x) (c .next-new2 .result) (at .inv)
+    (λ e. omega (arith, bit-column (a .w .now) waysAt (at .x) (a .b))) (c .next-new2 .ensures)
 
 returns-3 : tie.Need-returns-3 Inv-loop μ-loop
 returns-3 c =
@@ -83,11 +90,12 @@ hop-spec =
     add-row
     bit-at-requires
     returns
+    add-column
     next-new-requires
     loop-holds
-    mul-bit-at
-    add-bit-at
-    bit-at-requires-2
+    mul-digit-at
+    add-digit-at
+    digit-at-requires
     returns-2
     add-next-new
     next-new-requires-2
