@@ -1,4 +1,4 @@
--- The rows of a block of episodes: their marks word by word of the log, and the links that are marked in a row.
+-- The rows of a block of episodes: their marks, group by group of the log, and the links that are marked in a row.
 use mathlib.Core.Path.{_≡_, refl, ap, sym, subst, _∙_}
 use mathlib.Core.Logic.{_≢_, _⊎_, ⊎-elim}
 use mathlib.Core.Bool.{Bool, true, false, not, true≢false}
@@ -12,15 +12,31 @@ use lib.Seq.{length-take-le, getD-take, getD-drop, getD-set-same, getD-set-other
 use borrow.Author.Tests.{ne-eqb}
 use Rattle.order.specs.Order.{All}
 use Rattle.paths.proofs.Passing.{passing-equal}
-use Rattle.log.specs.Words.{kind, toEpisode, toPause}
+use Rattle.log.specs.Words.{kind, number, toEpisode, toPause}
 use Rattle.log.specs.Content.{Heard, Content, joins, pausesOf, least, leastPause}
-use Rattle.log.specs.Log.{contentOf, graphOf, PassedLog}
+use Rattle.log.specs.Log.{toBeforeLast, contentOf, graphOf, PassedLog}
+use Rattle.log.specs.Groups.{ToWords}
+use Rattle.log.proofs.Asked.{to-there}
 use Rattle.log.proofs.Links.{heardBefore, nearestFrom}
 use Rattle.log.proofs.Pauses.{pauses-append, pauses-one, pauses-none, pauses-heard, heard-pauses, link-heard, least-mem, least-more}
-use Rattle.log.proofs.Laws.{well-formed, graph-episodes, to-word, before-head, pass-from, pass-to, heard-passed}
+use Rattle.log.proofs.Laws.{graph-episodes, to-word, before-head, pass-from, pass-to, heard-passed}
+use Rattle.log.proofs.Walk.{no-words, words-more, along, nearest-same, GroupHere, first-here, to-follows, next-here}
 use Rattle.writing.specs.Layout.{BeginsWith}
 use Rattle.copying.specs.FairCopy.{linked, linkedTo, group}
-use Rattle.copying.specs.Copying.{mark, lowered, blockWords, rowAt, BlockMarks, Lowered, WordTaken, markedAt, marked, pauseAt, GroupWritten}
+use Rattle.copying.specs.Copying.{
+  mark,
+  lowered,
+  blockWords,
+  rowAt,
+  BlockMarks,
+  Lowered,
+  contentBefore,
+  GroupTaken,
+  markedAt,
+  marked,
+  pauseAt,
+  GroupWritten,
+}
 use Rattle.copying.proofs.Linked.{linked-mem, mem-linked, linkedTo-mem, group-same}
 
 -- the mark of a link that is heard once more, with the pause `q`
@@ -101,78 +117,93 @@ marks-other : (block n : ℕ) (k : Heard) (hs : List Heard) (w : List ℕ) → k
     → BlockMarks block (content n (hs ++ k ∷ [])) w
 marks-other block n k hs w ne m a b h l = rw (pauses-other a b k hs (λ q. ne (omega (arith, q .0)))) (m a b h l)
 
--- at place `p` the block marks the links of the words before it, and `from` is the nearest from word's number
-pub record Marking (l w w′ : List ℕ) (block from p : ℕ) : Type 0 where
-  pub behind : 0 < p
-  pub within : p < length l
-  pub same-length : length w′ ≡ length w
-  pub marks : BlockMarks block (content (graphOf l .n) (heardBefore l p)) w′
-  pub nearest : 1 < p → from ≡ nearestFrom l p
+-- before the first to word of a group nothing is marked of it
+pub group-first : (block : ℕ) (l : List ℕ) (start : ℕ) (w : List ℕ) → toBeforeLast l start ≡ true → GroupTaken block l start start w w
+group-first block l start w e =
+    let there = to-there l start e in
+    record { words = no-words l start (omega (arith, there .0)); same-length = refl; marks = λ m. m }
 
-pub marking-start : (l w : List ℕ) (block : ℕ) → PassedLog l → length w ≡ blockWords → w ≡ replicate (length w) 0 → Marking l w w block 0 1
-marking-start l w block passed long zeros =
-    let (m, n, t, e, few) = passed in
-    let two : 2 ≤ length l = well-formed m l n t e .long in
+-- the next to word of a group from the block
+module _ (l : List ℕ) (start p : ℕ) (w w′ : List ℕ) (passed : PassedLog l) (behind : 0 < start)
+    (s : GroupTaken (nearestFrom l start / 64) l start p w w′) (e : toBeforeLast l p ≡ true) where
+  pub to-fits : toEpisode (getD l p 0) < 256
+  to-fits =
+      let there = to-there l p e in
+      let before = s .words .start-before in
+      to-word l passed p (omega arith) (there .0) (there .1)
+
+  -- its link is marked in the row of the nearest from word
+  pub group-more : (w″ : List ℕ) → Lowered (rowAt (nearestFrom l start) + toEpisode (getD l p 0)) (toPause (getD l p 0)) w′ w″
+      → GroupTaken (nearestFrom l start / 64) l start (p + 1) w w″
+  group-more w″ d =
+      let before = s .words .start-before in
+      let more = pass-to l p (omega arith) (s .words .within) (to-there l p e .1) .0 in
+      let link : Heard = record { from = nearestFrom l start; to = toEpisode (getD l p 0); pause = toPause (getD l p 0) } in
+      record {
+        words = words-more l start p (s .words) e;
+        same-length = d .same-length ∙ s .same-length;
+        marks = λ m.
+            rw (more, nearest-same l start p (s .words) behind)
+            (marks-here (nearestFrom l start / 64) (graphOf l .n) link (heardBefore l p) w′ w″ (passed-few l passed) to-fits refl (s .marks m) d);
+      }
+
+-- the to words of a group from another block are passed over
+pub group-passed : (block : ℕ) (l : List ℕ) (start r : ℕ) (w : List ℕ) → 0 < start → nearestFrom l start / 64 ≢ block → ToWords l start r
+    → GroupTaken block l start r w w
+group-passed block l start r w behind other s =
     record {
-      behind = omega arith;
-      within = omega arith;
+      words = s;
+      same-length = refl;
+      marks = λ m. along l start r s (λ p. BlockMarks block (contentBefore l p) w × (nearestFrom l p ≡ nearestFrom l start)) (m, refl) pass .0;
+    }
+  where
+    pass : (p : ℕ) → start ≤ p → p + 1 < length l → kind (getD l p 0) ≡ 3
+        → BlockMarks block (contentBefore l p) w × (nearestFrom l p ≡ nearestFrom l start)
+        → BlockMarks block (contentBefore l (p + 1)) w × (nearestFrom l (p + 1) ≡ nearestFrom l start)
+    pass p before inner k (m, near) =
+        let (more, same) = pass-to l p (omega arith) (omega arith) k in
+        let link : Heard = record { from = nearestFrom l p; to = toEpisode (getD l p 0); pause = toPause (getD l p 0) } in
+        (rw more (marks-other block (graphOf l .n) link (heardBefore l p) w (rw near other) m), same ∙ near)
+
+-- at place `p` a group starts or the last word stands, and the block marks the links of the words before it
+pub record Marking (l w w′ : List ℕ) (block p : ℕ) : Type 0 where
+  pub here : GroupHere l p
+  pub same-length : length w′ ≡ length w
+  pub marks : BlockMarks block (contentBefore l p) w′
+
+pub marking-start : (l w : List ℕ) (block : ℕ) → PassedLog l → length w ≡ blockWords → w ≡ replicate (length w) 0 → Marking l w w block 1
+marking-start l w block passed long zeros =
+    let first = first-here l passed in
+    let within : 1 < length l = first .within in
+    record {
+      here = first;
       same-length = refl;
       marks = rw (before-head l (omega arith)) (marks-none block (graphOf l .n) w zeros (passed-few l passed) long);
-      nearest = λ h. absurd (omega arith);
     }
 
--- what holds of the word at a place between head and end
-module _ (l w w′ : List ℕ) (block from p : ℕ) (passed : PassedLog l) (s : Marking l w w′ block from p) (inner : p + 1 < length l) where
-  to-here : kind (getD l p 0) ≢ 2 → (kind (getD l p 0) ≡ 3) × (1 < p) × (toEpisode (getD l p 0) < 256)
-  to-here = to-word l passed p (s .behind) inner
+-- the group that starts at a place
+module _ (l w w′ : List ℕ) (block p : ℕ) (passed : PassedLog l) (s : Marking l w w′ block p) (inner : p + 1 < length l) where
+  -- its from word is followed by a to word
+  pub first-to : toBeforeLast l (p + 1) ≡ true
+  first-to = to-follows l passed p (s .here) inner
 
-  -- the link that it gives
-  abbrev link : Heard
-  link = record { from = from; to = toEpisode (getD l p 0); pause = toPause (getD l p 0) }
+  -- it is the nearest from word of the to words
+  pub from-nearest : number (getD l p 0) ≡ nearestFrom l (p + 1)
+  from-nearest = sym (pass-from l p (s .here .behind) (s .here .within) (s .here .starts inner) .1)
 
-  pub marking-on : length w ≡ blockWords → {r : ℕ} {w″ : List ℕ} → WordTaken (getD l p 0) from block r w′ w″ → Marking l w w″ block r (p + 1)
-  marking-on long {r} {w″} d = go (ℕ-discrete (kind (getD l p 0)) 2) (ℕ-discrete (from / 64) block)
-    where
-      go : Dec (kind (getD l p 0) ≡ 2) → Dec (from / 64 ≡ block) → Marking l w w″ block r (p + 1)
-      go (yes k) same =
-          let (links, near) = pass-from l p (s .behind) (s .within) k in
-          let (new, kept) = d .of-from k in
-          record {
-            behind = omega arith;
-            within = inner;
-            same-length = rw kept (s .same-length);
-            marks = rw (kept, links) (s .marks);
-            nearest = λ h. cc;
-          }
-      go (no k) (yes same) =
-          let (more, near) = pass-to l p (s .behind) (s .within) (to-here k .0) in
-          let is-nearest = s .nearest (to-here k .1) in
-          let (kept, low) = d .of-to k same in
-          record {
-            behind = omega arith;
-            within = inner;
-            same-length = low .same-length ∙ s .same-length;
-            marks =
-                rw (more, ← is-nearest)
-                (marks-here block (graphOf l .n) link (heardBefore l p) w′ w″ (passed-few l passed) (to-here k .2) same (s .marks) low);
-            nearest = λ h. cc;
-          }
-      go (no k) (no other) =
-          let (more, near) = pass-to l p (s .behind) (s .within) (to-here k .0) in
-          let is-nearest = s .nearest (to-here k .1) in
-          let (kept, same) = d .of-other k other in
-          record {
-            behind = omega arith;
-            within = inner;
-            same-length = rw same (s .same-length);
-            marks = rw (more, ← is-nearest, same) (marks-other block (graphOf l .n) link (heardBefore l p) w′ other (s .marks));
-            nearest = λ h. cc;
-          }
+  pub marking-on : {r : ℕ} {w″ : List ℕ} → GroupTaken block l (p + 1) r w′ w″ → toBeforeLast l r ≡ false → Marking l w w″ block r
+  marking-on {r} {w″} d other =
+      let same = pass-from l p (s .here .behind) (s .here .within) (s .here .starts inner) .0 in
+      record {
+        here = next-here l passed (p + 1) r (omega arith) (d .words) other;
+        same-length = d .same-length ∙ s .same-length;
+        marks = d .marks (rw same (s .marks));
+      }
 
 -- at the last word the block marks the links of the log
-pub marking-end : (l w w′ : List ℕ) (block from p : ℕ) → PassedLog l → Marking l w w′ block from p → length l ≤ p + 1 → BlockMarks block (contentOf l) w′
-marking-end l w w′ block from p (m, n, t, e, few) s h =
-    let last : p ≡ length l - 1 = omega (arith, s .within) in
+pub marking-end : (l w w′ : List ℕ) (block p : ℕ) → PassedLog l → Marking l w w′ block p → length l ≤ p + 1 → BlockMarks block (contentOf l) w′
+marking-end l w w′ block p (m, n, t, e, few) s h =
+    let last : p ≡ length l - 1 = omega (arith, s .here .within) in
     rw (heard-passed m l n t e) at (rw last at (s .marks))
 
 -- the row holds the mark of each link from `a`

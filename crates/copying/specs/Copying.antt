@@ -8,8 +8,10 @@ use lib.Dec.{eqb}
 use lib.ListN.{length, getD}
 use Rattle.paths.specs.Graph.{Graph}
 use Rattle.paths.specs.Passing.{passing}
-use Rattle.log.specs.Words.{kind, number, toEpisode, toPause}
 use Rattle.log.specs.Content.{Content, pausesOf, least}
+use Rattle.log.specs.Log.{contentOf}
+use Rattle.log.specs.Groups.{ToWords}
+use Rattle.log.proofs.Links.{heardBefore}
 use Rattle.copying.specs.FairCopy.{group, groups, groupLinks}
 use Rattle.writing.specs.Layout.{BeginsWith}
 
@@ -41,11 +43,15 @@ pub record Lowered (at p : ℕ) (w w′ : List ℕ) : Type 0 where
   pub here : getD w′ at 0 ≡ lowered (getD w at 0) p
   pub other : (i : ℕ) → i ≢ at → getD w′ i 0 ≡ getD w i 0
 
--- the word `x` between head and end is taken for the block: `from` becomes `r`
-pub record WordTaken (x from block r : ℕ) (w w′ : List ℕ) : Type 0 where
-  pub of-from : kind x ≡ 2 → (r ≡ number x) × (w′ ≡ w)
-  pub of-to : kind x ≢ 2 → from / 64 ≡ block → (r ≡ from) × Lowered (rowAt from + toEpisode x) (toPause x) w w′
-  pub of-other : kind x ≢ 2 → from / 64 ≢ block → (r ≡ from) × (w′ ≡ w)
+-- what the words of the log before place `p` tell
+abbrev pub contentBefore : List ℕ → ℕ → Content
+contentBefore l p = record { n = contentOf l .n; heard = heardBefore l p }
+
+-- the links of the to words from `start` on and before `p` are marked where they are from the block
+pub record GroupTaken (block : ℕ) (l : List ℕ) (start p : ℕ) (w w′ : List ℕ) : Type 0 where
+  pub words : ToWords l start p
+  pub same-length : length w′ ≡ length w
+  pub marks : BlockMarks block (contentBefore l start) w → BlockMarks block (contentBefore l p) w′
 
 -- whether the row has a mark at `b`
 abbrev pub markedAt : List ℕ → ℕ → Bool

@@ -2,14 +2,16 @@
 // episode; then the marked ones are written, row by row.
 ghost use mathlib.Core.Path.{_≡_};
 ghost use mathlib.Core.Logic.{_≢_};
+ghost use mathlib.Core.Bool.{true, false};
 ghost use Prim.Native.Nat.{ℕ, _/_, _%_, _^_, _<_, _≤_};
 ghost use lib.ListN.{length, getD, replicate, set};
-ghost use Rattle.log.specs.Words.{kind, toEpisode, word, Small};
+ghost use Rattle.log.specs.Words.{word, Small};
 ghost use Rattle.log.specs.Content.{leastPause};
-ghost use Rattle.log.specs.Log.{contentOf, graphOf, PassedLog};
+ghost use Rattle.log.specs.Log.{toBeforeLast, contentOf, graphOf, PassedLog};
+ghost use Rattle.log.proofs.Links.{nearestFrom};
 ghost use Rattle.writing.specs.Layout.{BeginsWith};
 ghost use Rattle.copying.specs.FairCopy.{linkedTo, group, fairWords};
-ghost use Rattle.copying.specs.Copying.{blockWords, BlockMarks, Lowered, WordTaken, marked, pauseAt, groupLength, GroupWritten, GroupsWritten};
+ghost use Rattle.copying.specs.Copying.{blockWords, rowAt, BlockMarks, Lowered, GroupTaken, marked, pauseAt, groupLength, GroupWritten, GroupsWritten};
 
 // Lowers the mark at `at` to the pause plus one, where there is none yet or a higher one.
 fn lower(w: &mut [u32], at: usize, pause: u32)
@@ -22,20 +24,38 @@ fn lower(w: &mut [u32], at: usize, pause: u32)
     }
 }
 
-// Takes a word between head and end: a from word's number is given back, and a to word is marked in the row of `from` if that is in the
-// block.
-fn take_word(word: u32, from: usize, block: usize, w: &mut [u32]) -> usize
-    requires { ⌜ (kind word ≢ 2 → toEpisode word < 256) × (length (now w) ≡ blockWords) ⌝ }
-    ensures { λ r. ⌜ WordTaken word from block r (now (w .entry)) (now (w .exit)) ⌝ }
+// Marks the to words of a group, the first of which stands at `start`, in the row of their from word, which starts at word `row`, and gives
+// the place behind them.
+fn mark_group(log: &[u32], start: usize, row: usize, w: &mut [u32]) -> usize
+    requires { ⌜ PassedLog (now log) × (0 < start) × (toBeforeLast (now log) start ≡ true) × (row ≡ rowAt (nearestFrom (now log) start))
+        × (length (now w) ≡ blockWords) ⌝ }
+    ensures { λ r. ⌜ GroupTaken (nearestFrom (now (log .entry)) start / 64) (now (log .entry)) start r (now (w .entry)) (now (w .exit))
+        × (toBeforeLast (now (log .entry)) r ≡ false) ⌝ }
 {
-    if log::kind_of(word) == 2 {
-        return log::number_of(word);
+    let mut at = start;
+    loop {
+        let to = log::to_word_of(log[at]);
+        lower(w, row + to.episode, to.pause);
+        at += 1;
+        if !log::to_before_last(log, at) {
+            break;
+        }
     }
+    at
+}
+
+// Takes the to words of a group of `from`, the first of which stands at `start`: marks them if `from` is in the block, passes over them if
+// not, and gives the place behind them.
+fn take_group(log: &[u32], start: usize, from: usize, block: usize, w: &mut [u32]) -> usize
+    requires { ⌜ PassedLog (now log) × (0 < start) × (toBeforeLast (now log) start ≡ true) × (from ≡ nearestFrom (now log) start)
+        × (length (now w) ≡ blockWords) ⌝ }
+    ensures { λ r. ⌜ GroupTaken block (now (log .entry)) start r (now (w .entry)) (now (w .exit)) × (toBeforeLast (now (log .entry)) r ≡ false) ⌝ }
+{
     if from / 64 == block {
-        let to = log::to_word_of(word);
-        lower(w, from % 64 * 256 + to.episode, to.pause);
+        mark_group(log, start, from % 64 * 256, w)
+    } else {
+        log::group_end(log, start + 1)
     }
-    from
 }
 
 // Marks the links of a log from the episodes of a block, in words that are zero.
@@ -43,11 +63,10 @@ fn mark_block(log: &[u32], block: usize, w: &mut [u32])
     requires { ⌜ PassedLog (now log) × (length (now w) ≡ blockWords) × (now w ≡ replicate (length (now w)) 0) ⌝ }
     ensures { λ _. ⌜ BlockMarks block (contentOf (now (log .entry))) (now (w .exit)) ⌝ }
 {
-    let mut from = 0;
     let mut at = 1;
     while at + 1 < log.len() {
-        from = take_word(log[at], from, block, w);
-        at += 1;
+        let from = log::number_of(log[at]);
+        at = take_group(log, at + 1, from, block, w);
     }
 }
 

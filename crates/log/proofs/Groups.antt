@@ -9,13 +9,14 @@ use native.Mathlib.Omega.{arith}
 use lib.Dec.{ltb}
 use lib.ListN.{length, getD, drop}
 use borrow.Author.Tests.{lt-ltb, ltb-true}
-use Rattle.log.specs.Answer.{wordAnswer}
+use Rattle.log.specs.Words.{toEpisode, toPause}
+use Rattle.log.specs.Answer.{given, question, wordAnswer}
 use Rattle.log.specs.Log.{toBeforeLast, groupWord}
 use Rattle.log.specs.Places.{onwardsAt, Stopped}
 use Rattle.log.specs.declared.LogWord.{LogWord}
 use Rattle.log.specs.declared.LogWord.the-variants.{Taken, GivenUp}
 use Rattle.log.specs.declared.Ceilings.{Ceilings}
-use Rattle.log.proofs.Asked.{to-there, there-to, group-taken, ToTaken}
+use Rattle.log.proofs.Asked.{to-there, there-to, group-to, group-taken, ToTaken}
 use Rattle.log.proofs.Places.{stop-last, stop-refused, step-from, step-to}
 
 -- at `p` a group begins, or the last word stands
@@ -76,8 +77,14 @@ module _ (m : Ceilings) (l : List ℕ) (n p t : ℕ) where
     from-given-up g h e is =
         record { within = g .within; answer = sym (g .same) ∙ stop-refused m l n p (ltb 1 p) t k x h (sym e ∙ ap wordAnswer is) }
 
+    -- of a to word behind its group's from word, 7 and 8 are left to ask
     module _ (b : Bool) (g : InGroup m l n p t) (h : b ≡ toBeforeLast l p) (yes : b ≡ true)
-        (e : wordAnswer r ≡ groupWord m n p (getD l p 0) (drop (p + 1) l) true t) where
+        (e : wordAnswer r
+        ≡ question 7 p (ltb (toEpisode (getD l p 0)) n)
+        (question 8 p (ltb t (m .words)) (given (3, toEpisode (getD l p 0), toPause (getD l p 0))))) where
+      all-asked : wordAnswer r ≡ groupWord m n p (getD l p 0) (drop (p + 1) l) true t
+      all-asked = e ∙ sym (group-to m n p (getD l p 0) (drop (p + 1) l) true t (to-there l p (sym h ∙ yes) .1))
+
       pub to-taken : (q : ℕ) → r ≡ Taken k x q → InGroup m l n (p + 1) (t + 1)
       to-taken q is =
           let there = to-there l p (sym h ∙ yes) in
@@ -85,7 +92,7 @@ module _ (m : Ceilings) (l : List ℕ) (n p t : ℕ) where
             behind-from = omega arith;
             within = there .0;
             few = omega arith;
-            same = sym (step-to m l n p true t (k, x, q) (there .0) (sym e ∙ ap wordAnswer is) (there .1)) ∙ g .same;
+            same = sym (step-to m l n p true t (k, x, q) (there .0) (sym all-asked ∙ ap wordAnswer is) (there .1)) ∙ g .same;
           }
 
       pub to-given-up : r ≡ GivenUp k x → Stopped m l n p t
@@ -93,5 +100,5 @@ module _ (m : Ceilings) (l : List ℕ) (n p t : ℕ) where
           let there = to-there l p (sym h ∙ yes) in
           record {
             within = g .within;
-            answer = rw (lt-ltb 1 p (g .behind-from)) (sym (g .same) ∙ stop-refused m l n p true t k x (there .0) (sym e ∙ ap wordAnswer is));
+            answer = rw (lt-ltb 1 p (g .behind-from)) (sym (g .same) ∙ stop-refused m l n p true t k x (there .0) (sym all-asked ∙ ap wordAnswer is));
           }

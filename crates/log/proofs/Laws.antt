@@ -1,9 +1,7 @@
 -- The laws of a log `l` that passes questions 1 to 10 with `n` episodes and `t` to words: what other crates cite.
 use mathlib.Core.Path.{_≡_, _∙_, sym, ap}
-use mathlib.Core.Logic.{_≢_, ⊎-elim}
 use mathlib.Core.List.{List, [], _∷_, _++_, map, map-append, List·Memᴰ as Mem}
 use Prim.Native.Nat.{ℕ, _+_, _-_, _<_, _≤_, _^_}
-use native.Mathlib.Decide.{ℕ-discrete}
 use native.Mathlib.Omega.{arith}
 use lib.ListN.{length, getD, drop, length-map}
 use Rattle.paths.specs.Graph.{EndsBelow}
@@ -48,8 +46,7 @@ module _ (m : Ceilings) (l : List ℕ) (n t : ℕ) (e : questions m l ≡ given 
   pub links-below : EndsBelow (graphOf l)
   links-below = forms.links-below m l n t e
 
--- A word between head and end of a log that passes, at most 256 episodes being allowed: a from word gives an episode; any other is a to word, is not
--- the first behind the head, and gives an episode too.
+-- A word between head and end of a log that passes, at most 256 episodes being allowed: it gives an episode.
 module _ (l : List ℕ) (passed : PassedLog l) (p : ℕ) (behind : 0 < p) (inner : p + 1 < length l) where
   below : figure (getD l p 0) < 256
   below =
@@ -60,16 +57,8 @@ module _ (l : List ℕ) (passed : PassedLog l) (p : ℕ) (behind : 0 < p) (inner
   pub from-word : kind (getD l p 0) ≡ 2 → number (getD l p 0) < 256
   from-word k = rw (figure-from _ k) at below
 
-  pub to-word : kind (getD l p 0) ≢ 2 → (kind (getD l p 0) ≡ 3) × (1 < p) × (toEpisode (getD l p 0) < 256)
-  to-word other =
-      let (m, n, t, e, few) = passed in
-      let form = forms.well-formed m l n t e in
-      let k : kind (getD l p 0) ≡ 3 = ⊎-elim (λ k. absurd (other k)) (λ k. k) (form .between p behind inner) in
-      (k, later (form .starts (omega arith)) (ℕ-discrete p 1), rw (figure-to _ k) at below)
-    where
-      later : kind (getD l 1 0) ≡ 2 → Dec (p ≡ 1) → 1 < p
-      later first (yes e) = absurd (other (rw e first))
-      later first (no ne) = omega arith
+  pub to-word : kind (getD l p 0) ≡ 3 → toEpisode (getD l p 0) < 256
+  to-word k = rw (figure-to _ k) at below
 
 -- the episode and the pause of a link that was heard fit a to word
 pub content-fits : (l : List ℕ) (h : Heard) → Mem h (contentOf l .heard) → (h .to < 2 ^ 16) × (h .pause < 2 ^ 12)

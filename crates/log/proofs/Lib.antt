@@ -9,5 +9,6 @@ pub mod Pauses
 pub mod Rest
 pub mod WellFormed
 pub mod Laws
+pub mod Walk
 pub mod Older
 pub mod Worked

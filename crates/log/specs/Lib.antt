@@ -5,3 +5,4 @@ pub mod Content
 pub mod Log
 pub mod Earlier
 pub mod Places
+pub mod Groups

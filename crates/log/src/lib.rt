@@ -1,5 +1,6 @@
 // The reading of a log: questions 1 to 10.
 ghost use mathlib.Core.Path.{_≡_};
+ghost use mathlib.Core.Bool.{false};
 ghost use Prim.Native.Nat.{_+_, _<_, _≤_};
 ghost use lib.Dec.{ltb};
 ghost use lib.ListN.{length, getD, drop};
@@ -7,6 +8,7 @@ ghost use Rattle.log.specs.Words.{kind, number, toEpisode, toPause};
 ghost use Rattle.log.specs.Answer.{given, question, andThen, wordAnswer, readAnswer};
 ghost use Rattle.log.specs.Log.{service, toBeforeLast, headWord, groupWord, endWord, questions};
 ghost use Rattle.log.specs.Places.{logWordAt, Stopped};
+ghost use Rattle.log.specs.Groups.{ToWords};
 
 // The most episodes and the most to words that a caller takes.
 pub struct Ceilings {
@@ -73,12 +75,24 @@ fn head_word(most: Ceilings, w: u32) -> LogWord
 }
 
 // Whether the word at `at` is not the last, and is a to word.
-fn to_before_last(log: &[u32], at: usize) -> bool
+pub fn to_before_last(log: &[u32], at: usize) -> bool
     requires { ⌜ at < length (now log) ⌝ }
     ensures { λ r. ⌜ r ≡ toBeforeLast (now (log .entry)) at ⌝ }
 {
     let w = log[at];
-    at + 1 < log.len() && kind_of(w) == 3
+    at < log.len() - 1 && kind_of(w) == 3
+}
+
+// The place behind the to words that stand from `start` on.
+pub fn group_end(log: &[u32], start: usize) -> usize
+    requires { ⌜ start < length (now log) ⌝ }
+    ensures { λ r. ⌜ ToWords (now (log .entry)) start r × (toBeforeLast (now (log .entry)) r ≡ false) ⌝ }
+{
+    let mut at = start;
+    while to_before_last(log, at) {
+        at += 1;
+    }
+    at
 }
 
 // Questions 6 and 7, of a from word at `at`.
@@ -97,17 +111,13 @@ fn from_word(log: &[u32], n: usize, at: usize, earlier: usize) -> LogWord
     }
 }
 
-// Questions 5, 7 and 8, of a to word at `at`.
-fn to_word(most: Ceilings, n: usize, at: usize, w: u32, from: bool, count: usize) -> LogWord
-    ensures { λ r. ⌜ wordAnswer r ≡ question 5 at from (question 7 at (ltb (toEpisode w) n)
-        (question 8 at (ltb count (most .words)) (given (3, toEpisode w, toPause w)))) ⌝ }
+// Questions 7 and 8, of a to word at `at` that has a from word before it.
+fn to_word(most: Ceilings, n: usize, at: usize, w: u32, count: usize) -> LogWord
+    ensures { λ r. ⌜ wordAnswer r ≡ question 7 at (ltb (toEpisode w) n) (question 8 at (ltb count (most .words)) (given (3, toEpisode w, toPause w))) ⌝ }
 {
     let ceiling = most.words;
     let to = to_word_of(w);
     let later = to.episode;
-    if !from {
-        return LogWord::GivenUp(5, at);
-    }
     if n <= later {
         return LogWord::GivenUp(7, at);
     }
@@ -127,10 +137,13 @@ fn group_word(most: Ceilings, log: &[u32], n: usize, at: usize, from: bool, coun
     if kind == 2 {
         return from_word(log, n, at, number_of(w));
     }
-    if kind == 3 {
-        return to_word(most, n, at, w, from, count);
+    if kind != 3 {
+        return LogWord::GivenUp(4, at);
     }
-    LogWord::GivenUp(4, at)
+    if !from {
+        return LogWord::GivenUp(5, at);
+    }
+    to_word(most, n, at, w, count)
 }
 
 // Questions 9 and 10, of the last word, `w` at `at`.
@@ -178,14 +191,15 @@ fn first_stop(most: Ceilings, log: &[u32], n: usize) -> Stop
         if at == last {
             break 'log at;
         }
-        // A group starts with its from word. A to word is met here only as word 1, before any from word.
+        // A group starts with its from word, which answers question 5 for its to words. A to word is met here only as word 1, before any
+        // from word.
         let LogWord::Taken(_, _, _) = group_word(most, log, n, at, 1 < at, count) else {
             break 'log at;
         };
         at += 1;
         // Its to words.
         while to_before_last(log, at) {
-            let LogWord::Taken(_, _, _) = group_word(most, log, n, at, true, count) else {
+            let LogWord::Taken(_, _, _) = to_word(most, n, at, log[at], count) else {
                 break 'log at;
             };
             at += 1;

@@ -1,6 +1,7 @@
--- Marking links: one link, and the links of a log word by word.
+-- Marking links: one link, those of the to words of a group, and those of a log group by group.
 use mathlib.Core.Path.{_≡_, ap}
 use mathlib.Core.Logic.{_⊎_, inl, inr}
+use mathlib.Core.Bool.{true, false}
 use mathlib.Core.List.{
   List,
   [],
@@ -19,18 +20,20 @@ use Prim.Native.Nat.{ℕ, _+_, _-_, _*_, _/_, _≤_, _<_}
 use native.Mathlib.Decide.{ℕ-discrete}
 use native.Mathlib.Omega.{arith}
 use lib.ListN.{length, getD}
-use Rattle.log.specs.Words.{kind, toEpisode}
+use Rattle.log.specs.Words.{number, toEpisode}
 use Rattle.log.specs.Content.{joins}
 use Rattle.log.proofs.Links.{linksBefore, nearestFrom}
-use Rattle.log.proofs.Laws.{well-formed, from-word, to-word, before-head, pass-from, pass-to, links-to, heard-passed}
+use Rattle.log.proofs.Asked.{to-there}
+use Rattle.log.proofs.Laws.{from-word, to-word, before-head, pass-from, links-to, heard-passed}
+use Rattle.log.proofs.Walk.{no-words, words-more, nearest-same, GroupHere, first-here, to-follows, next-here}
 use Rattle.bits.specs.Bits.{bit, BitSet}
 use Rattle.bits.specs.Work.{linksAt, waysAt, Matrix, Outside, nextAt}
 use Rattle.bits.proofs.Rows.{bits-zero}
-use Rattle.log.specs.Log.{PassedLog}
-use Rattle.reach.specs.Reach.{Marked, WordTaken, LinksMarked}
+use Rattle.log.specs.Log.{toBeforeLast, PassedLog}
+use Rattle.reach.specs.Reach.{Marked, MarkedBefore, GroupMarked, LinksMarked}
 use Rattle.bits.proofs.Frames.{outside-none, outside-then, outside-wider, set-other, set-outside}
 
-pub marked : {w w′ : List ℕ} (a b : ℕ) → a < 256 → b < 256 → BitSet w w′ (linksAt + 8 * a) b → Marked w w′ a b
+marked : {w w′ : List ℕ} (a b : ℕ) → a < 256 → b < 256 → BitSet w w′ (linksAt + 8 * a) b → Marked w w′ a b
 marked a b ha hb s =
     record {
       outside = outside-wider (omega arith) (omega arith) (set-outside (linksAt + 8 * a) b hb s);
@@ -60,24 +63,49 @@ matrix-more {w} {w′} {ls} a b ha hb m q =
     complete x y hx hy (inr n) (no p) d = absurd (p (ap (λ (v : ℕ × ℕ). v .0) (eq-of-singleton n)))
     complete x y hx hy (inr n) (yes p) (no r) = absurd (r (ap (λ (v : ℕ × ℕ). v .1) (eq-of-singleton n)))
 
--- at place `p` the matrix holds the links of the words before it, and `from` is the nearest from word's number
-pub record Marking (l w w′ : List ℕ) (from p : ℕ) : Type 0 where
-  pub outside : Outside linksAt waysAt w w′
-  pub behind : 0 < p
-  pub within : p < length l
-  pub links : Matrix linksAt w′ (λ a b. Mem (a, b) (linksBefore l p))
-  pub nearest : 1 < p → (from ≡ nearestFrom l p) × (from < 256)
+-- before the first to word of a group nothing is marked of it
+pub group-first : (l : List ℕ) (start : ℕ) (w : List ℕ) → toBeforeLast l start ≡ true → GroupMarked l start start w w
+group-first l start w e =
+    let there = to-there l start e in
+    record { words = no-words l start (omega (arith, there .0)); outside = outside-none linksAt waysAt w; links = λ m. m }
 
--- before the first of them no link has been seen, and no bit is set
-pub marking-start : (l w : List ℕ) → PassedLog l → ((i : ℕ) → i < nextAt → getD w i 0 ≡ 0) → Marking l w w 0 1
-marking-start l w (m, n, t, e, few) zeros =
-    let f = well-formed m l n t e in
-    let long : 2 ≤ length l = f .long in
+-- the next to word of the group
+module _ (l : List ℕ) (start p : ℕ) (w w′ : List ℕ) (passed : PassedLog l) (behind : 0 < start) (s : GroupMarked l start p w w′) (e : toBeforeLast l p ≡ true) where
+  pub to-fits : toEpisode (getD l p 0) < 256
+  to-fits =
+      let there = to-there l p e in
+      let before = s .words .start-before in
+      to-word l passed p (omega arith) (there .0) (there .1)
+
+  -- its link is marked in the row of the nearest from word
+  pub group-more : (w″ : List ℕ) → nearestFrom l start < 256 → BitSet w′ w″ (linksAt + 8 * nearestFrom l start) (toEpisode (getD l p 0))
+      → GroupMarked l start (p + 1) w w″
+  group-more w″ low d =
+      let before = s .words .start-before in
+      let m = marked (nearestFrom l start) (toEpisode (getD l p 0)) low to-fits d in
+      record {
+        words = words-more l start p (s .words) e;
+        outside = outside-then (s .outside) (m .outside);
+        links = λ n.
+            rw (links-to l p (omega arith) (s .words .within) (to-there l p e .1), nearest-same l start p (s .words) behind)
+            (matrix-more (nearestFrom l start) (toEpisode (getD l p 0)) low to-fits (s .links n) m);
+      }
+
+-- at place `p` a group starts or the last word stands, and the matrix holds the links of the words before it
+pub record Marking (l w w′ : List ℕ) (p : ℕ) : Type 0 where
+  pub here : GroupHere l p
+  pub outside : Outside linksAt waysAt w w′
+  pub links : MarkedBefore l p w′
+
+-- before the first group no link has been seen, and no bit is set
+pub marking-start : (l w : List ℕ) → PassedLog l → ((i : ℕ) → i < nextAt → getD w i 0 ≡ 0) → Marking l w w 1
+marking-start l w passed zeros =
+    let first = first-here l passed in
+    let within : 1 < length l = first .within in
     let none : linksBefore l 1 ≡ [] = ap (map joins) (before-head l (omega arith)) in
     record {
+      here = first;
       outside = outside-none linksAt waysAt w;
-      behind = omega arith;
-      within = omega arith;
       links =
           record {
             sound = λ a b ha hb o.
@@ -85,48 +113,33 @@ marking-start l w (m, n, t, e, few) zeros =
                 absurd (omega arith);
             complete = λ a b ha hb n. absurd (not-nil (rw none at n));
           };
-      nearest = λ h. absurd (omega arith);
     }
 
--- what holds of the word at a place between head and end
-module _ (l w w′ : List ℕ) (from p : ℕ) (passed : PassedLog l) (s : Marking l w w′ from p) (inner : p + 1 < length l) where
-  to-here : (kind (getD l p 0) ≡ 2 → ⊥) → (kind (getD l p 0) ≡ 3) × (1 < p) × (toEpisode (getD l p 0) < 256)
-  to-here = to-word l passed p (s .behind) inner
+-- the group that starts at a place
+module _ (l w w′ : List ℕ) (p : ℕ) (passed : PassedLog l) (s : Marking l w w′ p) (inner : p + 1 < length l) where
+  -- its from word is followed by a to word
+  pub first-to : toBeforeLast l (p + 1) ≡ true
+  first-to = to-follows l passed p (s .here) inner
 
-  -- before a to word a from word has come, and both give episodes
-  pub ends-below : (kind (getD l p 0) ≡ 2 → ⊥) → (from < 256) × (toEpisode (getD l p 0) < 256)
-  ends-below other = (s .nearest (to-here other .1) .1, to-here other .2)
+  -- it is the nearest from word of the to words, and gives an episode
+  pub from-nearest : (nearestFrom l (p + 1) ≡ number (getD l p 0)) × (number (getD l p 0) < 256)
+  from-nearest =
+      let k = s .here .starts inner in
+      (pass-from l p (s .here .behind) (s .here .within) k .1, from-word l passed p (s .here .behind) inner k)
 
-  pub marking-on : {r : ℕ} {w″ : List ℕ} → WordTaken (getD l p 0) from r w′ w″ → Marking l w w″ r (p + 1)
-  marking-on {r} {w″} d = go (ℕ-discrete (kind (getD l p 0)) 2)
-    where
-      go : Dec (kind (getD l p 0) ≡ 2) → Marking l w w″ r (p + 1)
-      go (yes k) =
-          let (same, near) = pass-from l p (s .behind) (s .within) k in
-          let (new, kept) = d .of-from k in
-          record {
-            outside = rw kept (s .outside);
-            behind = omega arith;
-            within = inner;
-            links = rw (kept, same) (s .links);
-            nearest = λ h. (cc, rw new (from-word l passed p (s .behind) inner k));
-          }
-      go (no other) =
-          let (heard, near) = pass-to l p (s .behind) (s .within) (to-here other .0) in
-          let more = links-to l p (s .behind) (s .within) (to-here other .0) in
-          let (is-nearest, low) = s .nearest (to-here other .1) in
-          let (same, q) = d .of-to other in
-          record {
-            outside = outside-then (s .outside) (q .outside);
-            behind = omega arith;
-            within = inner;
-            links = rw (more, ← is-nearest) (matrix-more from (toEpisode (getD l p 0)) low (to-here other .2) (s .links) q);
-            nearest = λ h. (cc, rw same low);
-          }
+  pub marking-on : {r : ℕ} {w″ : List ℕ} → GroupMarked l (p + 1) r w′ w″ → toBeforeLast l r ≡ false → Marking l w w″ r
+  marking-on {r} {w″} d other =
+      let same : linksBefore l (p + 1) ≡ linksBefore l p =
+      ap (map joins) (pass-from l p (s .here .behind) (s .here .within) (s .here .starts inner) .0) in
+      record {
+        here = next-here l passed (p + 1) r (omega arith) (d .words) other;
+        outside = outside-then (s .outside) (d .outside);
+        links = d .links (rw same (s .links));
+      }
 
 -- at the last word it holds the links of the log
-pub marking-end : (l w w′ : List ℕ) (from p : ℕ) → PassedLog l → Marking l w w′ from p → length l ≤ p + 1 → LinksMarked l w w′
-marking-end l w w′ from p (m, n, t, e, few) s h =
-    let last : p ≡ length l - 1 = omega (arith, s .within) in
+pub marking-end : (l w w′ : List ℕ) (p : ℕ) → PassedLog l → Marking l w w′ p → length l ≤ p + 1 → LinksMarked l w w′
+marking-end l w w′ p (m, n, t, e, few) s h =
+    let last : p ≡ length l - 1 = omega (arith, s .here .within) in
     let all = ap (map joins) (heard-passed m l n t e) in
     record { outside = s .outside; links = rw all at (rw last at (s .links)) }

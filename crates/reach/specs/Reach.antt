@@ -1,12 +1,13 @@
 -- What the steps from a log to its matrix of ways leave.
 use mathlib.Core.Path.{_≡_}
-use mathlib.Core.List.{List}
+use mathlib.Core.List.{List, List·Memᴰ as Mem}
 use Prim.Native.Nat.{ℕ, _+_, _*_, _≤_, _<_, max, min}
 use lib.ListN.{getD}
 use Rattle.paths.specs.Graph.{Graph, EndsBelow, Link, Way}
 use Rattle.paths.specs.Closure.{WayBelow}
-use Rattle.log.specs.Words.{kind, number, toEpisode}
 use Rattle.log.specs.Log.{graphOf}
+use Rattle.log.specs.Groups.{ToWords}
+use Rattle.log.proofs.Links.{linksBefore}
 use Rattle.bits.specs.Bits.{bit}
 use Rattle.bits.specs.Work.{linksAt, waysAt, matrixWords, Matrix, Outside, nextAt}
 
@@ -20,10 +21,15 @@ pub record Marked (w w′ : List ℕ) (a b : ℕ) : Type 0 where
   pub here : bit w′ (linksAt + 8 * a) b ≡ 1
   pub other : (x y : ℕ) → x < 256 → y < 256 → ((x ≡ a) × (y ≡ b) → ⊥) → bit w′ (linksAt + 8 * x) y ≡ bit w (linksAt + 8 * x) y
 
--- the word `x` between head and end is taken: `from` becomes `r`
-pub record WordTaken (x from r : ℕ) (w w′ : List ℕ) : Type 0 where
-  pub of-from : kind x ≡ 2 → (r ≡ number x) × (w′ ≡ w)
-  pub of-to : (kind x ≡ 2 → ⊥) → (r ≡ from) × Marked w w′ from (toEpisode x)
+-- the first matrix holds the links of the words of the log before place `p`
+abbrev pub MarkedBefore : List ℕ → ℕ → List ℕ → Type 0
+MarkedBefore l p w = Matrix linksAt w (λ a b. Mem (a, b) (linksBefore l p))
+
+-- the links of the to words from `start` on and before `p` are marked
+pub record GroupMarked (l : List ℕ) (start p : ℕ) (w w′ : List ℕ) : Type 0 where
+  pub words : ToWords l start p
+  pub outside : Outside linksAt waysAt w w′
+  pub links : MarkedBefore l start w → MarkedBefore l p w′
 
 -- the first matrix holds the links of the log
 pub record LinksMarked (l w w′ : List ℕ) : Type 0 where

@@ -1,47 +1,45 @@
 // Who has a way to whom: the links of a log as a matrix of bits, and its closure.
 ghost use mathlib.Core.Path.{_≡_};
+ghost use mathlib.Core.Bool.{true, false};
 ghost use Prim.Native.Nat.{_+_, _*_, _<_, _≤_};
 ghost use lib.ListN.{length};
-ghost use Rattle.log.specs.Words.{kind, toEpisode};
-ghost use Rattle.log.specs.Log.{graphOf, PassedLog};
-ghost use Rattle.bits.specs.Work.{nextAt};
+ghost use Rattle.log.specs.Log.{toBeforeLast, graphOf, PassedLog};
+ghost use Rattle.log.proofs.Links.{nearestFrom};
+ghost use Rattle.bits.specs.Work.{linksAt, nextAt};
 ghost use Rattle.rising.specs.Rising.{NoWays};
-ghost use Rattle.reach.specs.Reach.{NoneMarked, Marked, WordTaken, LinksMarked, LinksCopied, RowClosed, RoundClosed, Closed, WaysReached};
+ghost use Rattle.reach.specs.Reach.{NoneMarked, GroupMarked, LinksMarked, LinksCopied, RowClosed, RoundClosed, Closed, WaysReached};
 ghost use Rattle.reach.specs.Reach.{ReachedLog, FirstLoop};
 use bits::LINKS;
 use bits::WAYS;
 
-// Marks the link from `a` to `b`.
-fn mark(w: &mut [u32], a: usize, b: usize)
-    requires { ⌜ (nextAt ≤ length (now w)) × (a < 256) × (b < 256) ⌝ }
-    ensures { λ _. ⌜ Marked (now (w .entry)) (now (w .exit)) a b ⌝ }
+// Marks the to words of a group, the first of which stands at `start`, in the row of their from word, which starts at word `row`, and gives
+// the place behind them.
+fn mark_group(log: &[u32], start: usize, row: usize, w: &mut [u32]) -> usize
+    requires { ⌜ PassedLog (now log) × (0 < start) × (toBeforeLast (now log) start ≡ true) × (row ≡ linksAt + 8 * nearestFrom (now log) start)
+        × (nearestFrom (now log) start < 256) × (nextAt ≤ length (now w)) ⌝ }
+    ensures { λ r. ⌜ GroupMarked (now (log .entry)) start r (now (w .entry)) (now (w .exit)) × (toBeforeLast (now (log .entry)) r ≡ false) ⌝ }
 {
-    bits::set_bit(w, LINKS + 8 * a, b);
-}
-
-// Takes a word between head and end: a from word's number is given back, and a to word's link from `from` is marked.
-fn take_word(word: u32, from: usize, w: &mut [u32]) -> usize
-    requires { ⌜ (nextAt ≤ length (now w)) × ((kind word ≡ 2 → ⊥) → (from < 256) × (toEpisode word < 256)) ⌝ }
-    ensures { λ r. ⌜ WordTaken word from r (now (w .entry)) (now (w .exit)) ⌝ }
-{
-    if log::kind_of(word) == 2 {
-        return log::number_of(word);
+    let mut at = start;
+    loop {
+        let to = log::to_word_of(log[at]);
+        bits::set_bit(w, row, to.episode);
+        at += 1;
+        if !log::to_before_last(log, at) {
+            break;
+        }
     }
-    let to = log::to_word_of(word);
-    mark(w, from, to.episode);
-    from
+    at
 }
 
-// Marks the links of a log that passes.
+// Marks the links of a log that passes, group by group.
 fn mark_links(log: &[u32], w: &mut [u32])
     requires { ⌜ PassedLog (now log) × (nextAt ≤ length (now w)) × NoneMarked (now w) ⌝ }
     ensures { λ _. ⌜ LinksMarked (now (log .entry)) (now (w .entry)) (now (w .exit)) ⌝ }
 {
-    let mut from = 0;
     let mut at = 1;
     while at + 1 < log.len() {
-        from = take_word(log[at], from, w);
-        at += 1;
+        let from = log::number_of(log[at]);
+        at = mark_group(log, at + 1, LINKS + 8 * from, w);
     }
 }
 

@@ -1,20 +1,20 @@
--- `copying::mark_block` meets its contract. The invariant: the block marks the links of the words before `at`, and `from` is the nearest
--- from word's number.
+-- `copying::mark_block` meets its contract. The invariant: a group starts at `at` or the last word stands there, and the block marks the links
+-- of the words before it.
 -- Assumes nothing.
 use mathlib.Core.Path.{_∙_}
 use Prim.Native.Nat.{_-_}
 use native.Mathlib.Omega.{arith}
+use borrow.Author.Needs.{needs}
 use lib.ListN.{length}
-use Rattle.log.proofs.Laws.{to-word}
-use Rattle.copying.proofs.Rows.{Marking, marking-start, marking-on, marking-end}
+use Rattle.copying.proofs.Rows.{Marking, marking-start, first-to, from-nearest, marking-on, marking-end}
 use Rattle.copying.proofs.mark_block.Statement.{statement}
 use Rattle.copying.proofs.mark_block.Tie as tie
 
 abbrev Inv-loop : tie.InvT-loop
-Inv-loop log block w₀ from₀ at₀ w from at = Marking log w₀ w block from at
+Inv-loop log block w₀ at₀ w at = Marking log w₀ w block at
 
 abbrev μ-loop : tie.MeasureT-loop
-μ-loop log block w₀ from₀ at₀ w from at = length log - at
+μ-loop log block w₀ at₀ w at = length log - at
 
 loop-holds : tie.Need-loop-holds Inv-loop μ-loop
 loop-holds c =
@@ -24,32 +24,38 @@ loop-holds c =
 add-loop : tie.Need-add-loop Inv-loop μ-loop
 add-loop c = omega arith
 
-mul-take-word : tie.Need-mul-take-word Inv-loop μ-loop
-mul-take-word c = omega arith
+mul-number-of : tie.Need-mul-number-of Inv-loop μ-loop
+mul-number-of c = omega arith
 
-shared-slice-read-take-word : tie.Need-shared-slice-read-take-word Inv-loop μ-loop
-shared-slice-read-take-word c = omega arith
+shared-slice-read-number-of : tie.Need-shared-slice-read-number-of Inv-loop μ-loop
+shared-slice-read-number-of c = omega arith
 
-take-word-requires : tie.Need-take-word-requires Inv-loop μ-loop
-take-word-requires c κs =
-    let s = c .before .before .before .before .before .before in
-    let at = c .before .before .before .loop in (
-      λ other. to-word (s .args .log .now) (s .pre .0) (at .at) (at .inv .behind) (omega arith) other .2,
+number-of-requires : tie.Need-number-of-requires Inv-loop μ-loop
+number-of-requires c κs = search needs
+
+add-take-group : tie.Need-add-take-group Inv-loop μ-loop
+add-take-group c = omega arith
+
+take-group-requires : tie.Need-take-group-requires Inv-loop μ-loop
+take-group-requires c κs =
+    let s = c .before .before .before .before .before .before .before in
+    let at = c .before .before .before .before .loop in (
+      s .pre .0,
+      omega arith,
+      first-to (s .args .log .now) (s .args .w .now) (at .w) (s .args .block) (at .at) (s .pre .0) (at .inv) (omega arith),
+      c .before .number-of .ensures ∙ from-nearest (s .args .log .now) (s .args .w .now) (at .w) (s .args .block) (at .at) (s .pre .0) (at .inv) (omega arith),
       at .inv .same-length ∙ s .pre .1,
     )
-
-add-at : tie.Need-add-at Inv-loop μ-loop
-add-at c = omega arith
 
 loop-less : tie.Need-loop-less Inv-loop μ-loop
 loop-less c = omega arith
 
 loop-again : tie.Need-loop-again Inv-loop μ-loop
 loop-again c =
-    let s = c .before .before .before .before .before .before .before .before .before in
-    let at = c .before .before .before .before .before .before .loop in
-    marking-on (s .args .log .now) (s .args .w .now) (at .w) (s .args .block) (at .from) (at .at) (s .pre .0) (at .inv)
-    (omega arith) (s .pre .1) (c .before .before .take-word .ensures)
+    let s = c .before .before .before .before .before .before .before .before .before .before in
+    let at = c .before .before .before .before .before .before .before .loop in
+    let group = c .before .before .take-group .ensures in
+    marking-on (s .args .log .now) (s .args .w .now) (at .w) (s .args .block) (at .at) (s .pre .0) (at .inv) (omega arith) (group .0) (group .1)
 
 same-length : tie.Need-same-length Inv-loop μ-loop
 same-length c = omega arith
@@ -58,7 +64,7 @@ returns : tie.Need-returns Inv-loop μ-loop
 returns c =
     let s = c .before .before .before .before in
     let at = c .before .loop in
-    marking-end (s .args .log .now) (s .args .w .now) (at .w) (s .args .block) (at .from) (at .at) (s .pre .0) (at .inv) (omega arith)
+    marking-end (s .args .log .now) (s .args .w .now) (at .w) (s .args .block) (at .at) (s .pre .0) (at .inv) (omega arith)
 
 pub mark-block-spec : {M : Type 1} → statement M
 mark-block-spec =
@@ -68,10 +74,11 @@ mark-block-spec =
     μ-loop
     loop-holds
     add-loop
-    mul-take-word
-    shared-slice-read-take-word
-    take-word-requires
-    add-at
+    mul-number-of
+    shared-slice-read-number-of
+    number-of-requires
+    add-take-group
+    take-group-requires
     loop-less
     loop-again
     same-length

@@ -66,11 +66,14 @@ log-again c =
     let test = c .before .to-before-last in
     group-ends (a .most) (now (a .log)) (a .n) (at .at) (at .count) (test .result) (at .inv .0) (test .ensures) (c .if2 .left)
 
-group-word-requires-2 : tie.Need-group-word-requires-2 Inv-loop μ-loop Inv-log μ-log
-group-word-requires-2 c κs =
-    let a = c .before .before .before .before .before .before .before .before .before .args in
-    let test = c .before .to-before-last in
-    to-there (now (a .log)) (c .before .before .loop .at) (sym (test .ensures) ∙ c .if2 .taken) .0
+mul-to-word : tie.Need-mul-to-word Inv-loop μ-loop Inv-log μ-log
+mul-to-word c = omega arith
+
+shared-slice-read-to-word : tie.Need-shared-slice-read-to-word Inv-loop μ-loop Inv-log μ-log
+shared-slice-read-to-word c = omega arith
+
+to-word-requires : tie.Need-to-word-requires Inv-loop μ-loop Inv-log μ-log
+to-word-requires c κs = search needs
 
 enum-told-3 : tie.Need-enum-told-3 Inv-loop μ-loop Inv-log μ-log
 enum-told-3 c = search needs
@@ -89,12 +92,12 @@ loop-less c = omega arith
 
 loop-again : tie.Need-loop-again Inv-loop μ-loop Inv-log μ-log
 loop-again c =
-    let a = c .before .before .before .before .before .before .before .before .before .before .before .before .args in
-    let at = c .before .before .before .before .before .loop in
-    let test = c .before .before .before .before .to-before-last in
+    let a = c .before .before .before .before .before .before .before .before .before .before .before .before .before .args in
+    let at = c .before .before .before .before .before .before .loop in
+    let test = c .before .before .before .before .before .to-before-last in
     let v = c .enum-told3 .given in (
-      to-taken (a .most) (now (a .log)) (a .n) (at .at) (at .count) (c .before .before .group-word2 .result) (v .0 .0) (v .0 .1 .0)
-          (test .result) (at .inv .0) (test .ensures) (c .before .before .before .if2 .taken) (c .before .before .group-word2 .ensures) (v .0 .1 .1 .0) (v .1),
+      to-taken (a .most) (now (a .log)) (a .n) (at .at) (at .count) (c .before .before .to-word .result) (v .0 .0) (v .0 .1 .0)
+          (test .result) (at .inv .0) (test .ensures) (c .before .before .before .before .if2 .taken) (c .before .before .to-word .ensures) (v .0 .1 .1 .0) (v .1),
       omega arith,
     )
 
@@ -114,12 +117,12 @@ returns-2 c =
 
 returns-3 : tie.Need-returns-3 Inv-loop μ-loop Inv-log μ-log
 returns-3 c =
-    let a = c .before .before .before .before .before .before .before .before .before .before .before .before .args in
-    let at = c .before .before .before .before .before .loop in
-    let test = c .before .before .before .before .to-before-last in
+    let a = c .before .before .before .before .before .before .before .before .before .before .before .before .before .args in
+    let at = c .before .before .before .before .before .before .loop in
+    let test = c .before .before .before .before .before .to-before-last in
     let v = c .enum-told4 .given in
-    to-given-up (a .most) (now (a .log)) (a .n) (at .at) (at .count) (c .before .before .group-word2 .result) (v .0 .0) (v .0 .1 .0)
-    (test .result) (at .inv .0) (test .ensures) (c .before .before .before .if2 .taken) (c .before .before .group-word2 .ensures) (v .1)
+    to-given-up (a .most) (now (a .log)) (a .n) (at .at) (at .count) (c .before .before .to-word .result) (v .0 .0) (v .0 .1 .0)
+    (test .result) (at .inv .0) (test .ensures) (c .before .before .before .before .if2 .taken) (c .before .before .to-word .ensures) (v .1)
 
 pub first-stop-spec : {M : Type 1} → statement M
 first-stop-spec =
@@ -139,7 +142,9 @@ first-stop-spec =
     to-before-last-requires
     log-less
     log-again
-    group-word-requires-2
+    mul-to-word
+    shared-slice-read-to-word
+    to-word-requires
     enum-told-3
     enum-told-4
     add-at-2

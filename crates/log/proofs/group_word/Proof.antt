@@ -1,4 +1,4 @@
--- `log::group_word` meets its contract: the word is a from word, a to word or neither.
+-- `log::group_word` meets its contract: the word is a from word, neither, or a to word, before or behind a from word.
 -- Assumes nothing.
 use mathlib.Core.Path.{_∙_, sym}
 use Prim.Native.Nat.{ℕ, _+_}
@@ -6,6 +6,7 @@ use lib.ListN.{getD, drop}
 use denote.Ref.{now}
 use Rattle.log.proofs.Asked.{behind, group-from, group-to, group-other}
 use borrow.Author.Needs.{needs}
+use borrow.Author.Tests.{not-true, not-false}
 use Rattle.log.proofs.group_word.Statement.{statement}
 use Rattle.log.proofs.group_word.Tie as tie
 
@@ -34,25 +35,35 @@ returns c =
       behind (now (a .log)) (a .at + 1),
     )
 
-to-word-requires : tie.Need-to-word-requires
-to-word-requires c κs = search needs
-
 returns-2 : tie.Need-returns-2
 returns-2 c =
-    let a = c .before .before .before .before .before .before .args in
-    let w : ℕ = getD (now (a .log)) (a .at) 0 in
-    cc
-    (group-to (a .most) (a .n) (a .at) w (drop (a .at + 1) (now (a .log))) (a .from) (a .count)
-    (sym (c .before .before .before .kind-of .ensures) ∙ c .before .if2 .taken))
-
-returns-3 : tie.Need-returns-3
-returns-3 c =
     let a = c .before .before .before .before .before .args in
     let kind = c .before .before .kind-of in
     sym
     (group-other (a .most) (a .n) (a .at) (getD (now (a .log)) (a .at) 0) (drop (a .at + 1) (now (a .log))) (a .from) (a .count)
     (λ e. c .before .if1 .left (kind .ensures ∙ e))
-    (λ e. c .if2 .left (kind .ensures ∙ e)))
+    (λ e. c .if2 .taken (kind .ensures ∙ e)))
+
+returns-3 : tie.Need-returns-3
+returns-3 c =
+    let a = c .before .before .before .before .before .before .args in
+    rw (
+      group-to (a .most) (a .n) (a .at) (getD (now (a .log)) (a .at) 0) (drop (a .at + 1) (now (a .log))) (a .from) (a .count)
+          (sym (c .before .before .before .kind-of .ensures) ∙ c .before .if2 .left),
+      not-true (a .from) (c .if3 .taken),
+    )
+
+to-word-requires : tie.Need-to-word-requires
+to-word-requires c κs = search needs
+
+returns-4 : tie.Need-returns-4
+returns-4 c =
+    let a = c .before .before .before .before .before .before .before .args in
+    rw (
+      group-to (a .most) (a .n) (a .at) (getD (now (a .log)) (a .at) 0) (drop (a .at + 1) (now (a .log))) (a .from) (a .count)
+          (sym (c .before .before .before .before .kind-of .ensures) ∙ c .before .before .if2 .left),
+      not-false (a .from) (c .before .if3 .left),
+    ) (c .to-word .ensures)
 
 pub group-word-spec : {M : Type 1} → statement M
 group-word-spec =
@@ -64,6 +75,7 @@ group-word-spec =
     number-of-requires
     from-word-requires
     returns
-    to-word-requires
     returns-2
-    returns-3)
+    returns-3
+    to-word-requires
+    returns-4)

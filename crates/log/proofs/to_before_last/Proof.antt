@@ -14,8 +14,8 @@ mul-w c = search needs
 shared-slice-read-w : tie.Need-shared-slice-read-w
 shared-slice-read-w c = search needs
 
-add-if1 : tie.Need-add-if1
-add-if1 c = search needs
+sub-if1 : tie.Need-sub-if1
+sub-if1 c = search needs
 
 kind-of-requires : tie.Need-kind-of-requires
 kind-of-requires c κs = search needs
@@ -32,4 +32,4 @@ returns-2 c =
 
 pub to-before-last-spec : {M : Type 1} → statement M
 to-before-last-spec =
-    tie.close (tie.spec mul-w shared-slice-read-w add-if1 kind-of-requires returns returns-2)
+    tie.close (tie.spec mul-w shared-slice-read-w sub-if1 kind-of-requires returns returns-2)

@@ -1,7 +1,7 @@
 -- `log::to_word` meets its contract: the tests that led to a `return` answer the questions.
 -- Assumes nothing.
 use native.Mathlib.Omega.{arith}
-use borrow.Author.Tests.{lt-ltb, le-ltb, not-true, not-false}
+use borrow.Author.Tests.{lt-ltb, le-ltb}
 use Rattle.log.specs.Words.{toEpisode}
 use Rattle.log.proofs.Asked.{denied, answered}
 use borrow.Author.Needs.{needs}
@@ -14,28 +14,21 @@ to-word-of-requires c κs = search needs
 returns : tie.Need-returns
 returns c =
     let a = c .before .before .args in
-    denied 5 _ _ _ (not-true (a .from) (c .if1 .taken))
+    let to = c .before .to-word-of .ensures in
+    denied 7 _ _ _ (le-ltb (toEpisode (a .w)) (a .n) (omega (arith, to .0)))
 
 returns-2 : tie.Need-returns-2
 returns-2 c =
     let a = c .before .before .before .args in
     let to = c .before .before .to-word-of .ensures in
-    answered 5 _ _ _ _ (not-false (a .from) (c .before .if1 .left)) (denied 7 _ _ _ (le-ltb (toEpisode (a .w)) (a .n) (omega (arith, to .0))))
+    answered 7 _ _ _ _ (lt-ltb (toEpisode (a .w)) (a .n) (omega (arith, to .0))) (denied 8 _ _ _ (le-ltb (a .count) (a .most .words) (omega arith)))
 
 returns-3 : tie.Need-returns-3
 returns-3 c =
-    let a = c .before .before .before .before .args in
-    let to = c .before .before .before .to-word-of .ensures in
-    answered 5 _ _ _ _ (not-false (a .from) (c .before .before .if1 .left))
-    (answered 7 _ _ _ _ (lt-ltb (toEpisode (a .w)) (a .n) (omega (arith, to .0))) (denied 8 _ _ _ (le-ltb (a .count) (a .most .words) (omega arith))))
-
-returns-4 : tie.Need-returns-4
-returns-4 c =
-    let a = c .before .before .before .before .args in
-    let to = c .before .before .before .to-word-of .ensures in
-    answered 5 _ _ _ _ (not-false (a .from) (c .before .before .if1 .left))
-    (answered 7 _ _ _ _ (lt-ltb (toEpisode (a .w)) (a .n) (omega (arith, to .0)))
-    (answered 8 _ _ _ _ (lt-ltb (a .count) (a .most .words) (omega arith)) (rw (to .0, to .1))))
+    let a = c .before .before .before .args in
+    let to = c .before .before .to-word-of .ensures in
+    answered 7 _ _ _ _ (lt-ltb (toEpisode (a .w)) (a .n) (omega (arith, to .0)))
+    (answered 8 _ _ _ _ (lt-ltb (a .count) (a .most .words) (omega arith)) (rw (to .0, to .1)))
 
 pub to-word-spec : {M : Type 1} → statement M
-to-word-spec = tie.close (tie.spec to-word-of-requires returns returns-2 returns-3 returns-4)
+to-word-spec = tie.close (tie.spec to-word-of-requires returns returns-2 returns-3)

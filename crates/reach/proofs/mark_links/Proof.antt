@@ -1,51 +1,71 @@
--- `reach::mark_links` meets its contract. The invariant: the links of the words before `at` are marked, and `from` is the nearest from
--- word's number.
+-- `reach::mark_links` meets its contract. The invariant: a group starts at `at` or the last word stands there, and the links of the words
+-- before it are marked.
 -- Assumes nothing.
-use Prim.Native.Nat.{_-_}
+use mathlib.Core.Path.{ap}
+use Prim.Native.Nat.{ℕ, _+_, _-_, _*_}
 use native.Mathlib.Omega.{arith}
+use borrow.Author.Needs.{needs}
 use lib.ListN.{length}
-use Rattle.reach.proofs.Marks.{Marking, marking-start, marking-on, marking-end, ends-below}
+use Rattle.bits.specs.Work.{linksAt}
+use Rattle.reach.proofs.Marks.{Marking, marking-start, first-to, from-nearest, marking-on, marking-end}
 use Rattle.reach.proofs.mark_links.Statement.{statement}
 use Rattle.reach.proofs.mark_links.Tie as tie
 
 abbrev Inv-loop : tie.InvT-loop
-Inv-loop log w₀ from₀ at₀ w from at = Marking log w₀ w from at
+Inv-loop log w₀ at₀ w at = Marking log w₀ w at
 
 abbrev μ-loop : tie.MeasureT-loop
-μ-loop log w₀ from₀ at₀ w from at = length log - at
+μ-loop log w₀ at₀ w at = length log - at
 
 loop-holds : tie.Need-loop-holds Inv-loop μ-loop
-loop-holds c = marking-start (c .before .before .args .log .now) (c .before .before .args .w .now) (c .before .before .pre .0) (c .before .before .pre .2)
+loop-holds c =
+    let s = c .before .before in
+    marking-start (s .args .log .now) (s .args .w .now) (s .pre .0) (s .pre .2)
 
 add-loop : tie.Need-add-loop Inv-loop μ-loop
 add-loop c = omega arith
 
-mul-take-word : tie.Need-mul-take-word Inv-loop μ-loop
-mul-take-word c = omega arith
+mul-number-of : tie.Need-mul-number-of Inv-loop μ-loop
+mul-number-of c = omega arith
 
-shared-slice-read-take-word : tie.Need-shared-slice-read-take-word Inv-loop μ-loop
-shared-slice-read-take-word c = omega arith
+shared-slice-read-number-of : tie.Need-shared-slice-read-number-of Inv-loop μ-loop
+shared-slice-read-number-of c = omega arith
 
-take-word-requires : tie.Need-take-word-requires Inv-loop μ-loop
-take-word-requires c κs =
-    let s = c .before .before .before .before .before .before in
-    let at = c .before .before .before .loop in (
+number-of-requires : tie.Need-number-of-requires Inv-loop μ-loop
+number-of-requires c κs = search needs
+
+add-mark-group : tie.Need-add-mark-group Inv-loop μ-loop
+add-mark-group c = omega arith
+
+mul-mark-group : tie.Need-mul-mark-group Inv-loop μ-loop
+mul-mark-group c = omega arith
+
+add-mark-group-2 : tie.Need-add-mark-group-2 Inv-loop μ-loop
+add-mark-group-2 c = omega arith
+
+mark-group-requires : tie.Need-mark-group-requires Inv-loop μ-loop
+mark-group-requires c κs =
+    let s = c .before .before .before .before .before .before .before in
+    let at = c .before .before .before .before .loop in
+    let (near, low) = from-nearest (s .args .log .now) (s .args .w .now) (at .w) (at .at) (s .pre .0) (at .inv) (omega arith) in
+    let same = at .inv .outside .same-length in (
+      s .pre .0,
       omega arith,
-      ends-below (s .args .log .now) (s .args .w .now) (at .w) (at .from) (at .at) (s .pre .0) (at .inv) (omega arith),
+      first-to (s .args .log .now) (s .args .w .now) (at .w) (at .at) (s .pre .0) (at .inv) (omega arith),
+      rw near (ap (λ (x : ℕ). linksAt + 8 * x) (c .before .number-of .ensures)),
+      rw near low,
+      omega arith,
     )
-
-add-at : tie.Need-add-at Inv-loop μ-loop
-add-at c = omega arith
 
 loop-less : tie.Need-loop-less Inv-loop μ-loop
 loop-less c = omega arith
 
 loop-again : tie.Need-loop-again Inv-loop μ-loop
 loop-again c =
-    let s = c .before .before .before .before .before .before .before .before .before in
-    let at = c .before .before .before .before .before .before .loop in
-    marking-on (s .args .log .now) (s .args .w .now) (at .w) (at .from) (at .at) (s .pre .0) (at .inv) (omega arith)
-    (c .before .before .take-word .ensures)
+    let s = c .before .before .before .before .before .before .before .before .before .before in
+    let at = c .before .before .before .before .before .before .before .loop in
+    let group = c .before .before .mark-group .ensures in
+    marking-on (s .args .log .now) (s .args .w .now) (at .w) (at .at) (s .pre .0) (at .inv) (omega arith) (group .0) (group .1)
 
 same-length : tie.Need-same-length Inv-loop μ-loop
 same-length c = omega arith
@@ -54,7 +74,7 @@ returns : tie.Need-returns Inv-loop μ-loop
 returns c =
     let s = c .before .before .before .before in
     let at = c .before .loop in
-    marking-end (s .args .log .now) (s .args .w .now) (at .w) (at .from) (at .at) (s .pre .0) (at .inv) (omega arith)
+    marking-end (s .args .log .now) (s .args .w .now) (at .w) (at .at) (s .pre .0) (at .inv) (omega arith)
 
 pub mark-links-spec : {M : Type 1} → statement M
 mark-links-spec =
@@ -64,10 +84,13 @@ mark-links-spec =
     μ-loop
     loop-holds
     add-loop
-    mul-take-word
-    shared-slice-read-take-word
-    take-word-requires
-    add-at
+    mul-number-of
+    shared-slice-read-number-of
+    number-of-requires
+    add-mark-group
+    mul-mark-group
+    add-mark-group-2
+    mark-group-requires
     loop-less
     loop-again
     same-length
