@@ -7,7 +7,7 @@ use crate::counts::{Asked, Counts, OutLength, Service, Shape, WorkLength};
 use crate::lent::{Filling, LONGEST, Lent};
 use crate::random::Random;
 use crate::reference::{Graph, Parts, Passed, Refusal, Subject, WORK, copy_need, lent, report_need};
-use crate::services::{Answer, Door, ReadAnswer, Services, ThreadAnswer};
+use crate::services::{Answer, Compared, Door, ReadAnswer, Services, ThreadAnswer};
 use crate::words::{TO, kind, pause};
 
 pub struct Caller<S> {
@@ -119,6 +119,17 @@ impl<S: Services> Caller<S> {
         }
     }
 
+    /// How the call went beside an older build, where there is one.
+    fn beside(&mut self, service: Service, number: u32) -> Found {
+        let mut found = Found::default();
+        match self.services.compared() {
+            Compared::Not => {}
+            Compared::Same => self.counts.compared(service, number, self.log.before()),
+            Compared::Other(what) => found.say(Check::Older, || what),
+        }
+        found
+    }
+
     /// The words that came in, and those around them.
     fn ask_words_kept(&self, found: &mut Found) {
         found.ask(Check::LogKept, self.log.lent() == self.log.before(), || first_changed("input", &self.log, 0));
@@ -171,7 +182,7 @@ impl<S: Services> Caller<S> {
         let door = self.door(random);
         let answer = self.services.read(door, &mut self.log);
         self.count(Service::Read, answer.number, subject);
-        let mut found = Found::default();
+        let mut found = self.beside(Service::Read, answer.number);
         let ReadAnswer { number, place, episodes, links } = answer;
         if !self.bare {
             self.ask_words_kept(&mut found);
@@ -198,7 +209,7 @@ impl<S: Services> Caller<S> {
         let door = self.door(random);
         let answer = self.services.report(door, &mut self.log, &mut self.out, &mut self.work);
         self.count(Service::Report, answer.number, subject);
-        let mut found = Found::default();
+        let mut found = self.beside(Service::Report, answer.number);
         if !self.bare {
             self.ask_kept(&mut found);
             match passed(subject, |n, _| report_need(n), lengths) {
@@ -265,7 +276,7 @@ impl<S: Services> Caller<S> {
         let door = self.door(random);
         let answer = self.services.fair_copy(door, &mut self.log, &mut self.out, &mut self.work);
         self.count(Service::FairCopy, answer.number, subject);
-        let mut found = Found::default();
+        let mut found = self.beside(Service::FairCopy, answer.number);
         if !self.bare {
             self.ask_kept(&mut found);
             match passed(subject, |_, t| copy_need(t), lengths) {
@@ -286,7 +297,7 @@ impl<S: Services> Caller<S> {
         let door = self.door(random);
         let answer = self.services.trimmed_copy(door, &mut self.log, &mut self.out, &mut self.work);
         self.count(Service::TrimmedCopy, answer.number, subject);
-        let mut found = Found::default();
+        let mut found = self.beside(Service::TrimmedCopy, answer.number);
         if !self.bare {
             self.ask_kept(&mut found);
             match passed(subject, |_, t| copy_need(t), lengths) {
@@ -336,7 +347,7 @@ impl<S: Services> Caller<S> {
             let answer = self.services.thread(door, &mut self.log, i);
             self.counts.call(Service::Thread, answer.number);
             self.counts.asked(asked);
-            let mut found = Found::default();
+            let mut found = self.beside(Service::Thread, answer.number);
             let ThreadAnswer { number, start, length } = answer;
             if !self.bare {
                 self.ask_words_kept(&mut found);

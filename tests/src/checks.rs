@@ -41,11 +41,12 @@ pub enum Check {
     Least,
     Worked,
     Ends,
+    Older,
 }
 
 use Check::*;
 
-pub const CHECKS: [(Check, &str, &str); 38] = [
+pub const CHECKS: [(Check, &str, &str); 39] = [
     (Number, "number", "the answer's number: 0 or that of the refusal"),
     (Place, "place", "the refusal's place"),
     (Values, "values", "n and the count of to words; the copy's count of words"),
@@ -92,6 +93,7 @@ pub const CHECKS: [(Check, &str, &str); 38] = [
     (Least, "least", "a log with the same n and ways has each link of the trimmed copy"),
     (Worked, "worked", "the logs that were worked through by hand"),
     (Ends, "ends", "the call comes back, without a panic"),
+    (Older, "older build", "the answer of an older build and every word that it leaves"),
 ];
 
 pub fn name(check: Check) -> &'static str {

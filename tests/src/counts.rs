@@ -1,5 +1,6 @@
 //! How often everything was met, and the table that a run ends with.
 
+use crate::beside::Tally;
 use crate::words::{LONGEST_PAUSE, Noted, TO, episode, kind, number, pause};
 
 /// A list of things that are counted, each with its name in the table.
@@ -209,6 +210,8 @@ pub struct Counts {
     pub rounds: u64,
     numbers: [[u64; NUMBERS]; SERVICES],
     lists: [(&'static str, &'static [&'static str], Vec<u64>); 11],
+    /// The calls that were compared with an older build.
+    pub beside: Tally,
 }
 
 impl Counts {
@@ -231,6 +234,7 @@ impl Counts {
                 list("calls by pauses of a log that passes", Pauses::NAMES),
                 list("calls refused by question 7, by its word", Seventh::NAMES),
             ],
+            beside: Tally::default(),
         }
     }
 
@@ -294,6 +298,11 @@ impl Counts {
         self.lists[10].2[seventh as usize] += 1;
     }
 
+    /// An older build gave and left the same in a call on these words.
+    pub fn compared(&mut self, service: Service, number: u32, words: &[u32]) {
+        self.beside.call(service, number, words, self.rounds);
+    }
+
     pub fn add(&mut self, other: &Counts) {
         self.calls += other.calls;
         self.rounds += other.rounds;
@@ -305,6 +314,7 @@ impl Counts {
                 *mine += theirs;
             }
         }
+        self.beside.add(&other.beside);
     }
 
     /// What was met fewer than `floor` times.
@@ -324,10 +334,6 @@ impl Counts {
     }
 
     pub fn print(&self) {
-        let row = |name: &str, cell: &dyn Fn(usize) -> String| {
-            let cells: String = (0..SERVICES).map(|service| format!(" {:>12}", cell(service))).collect();
-            println!("{name:>8}{cells}");
-        };
         println!("answers by service; 0 is no refusal");
         row("number", &|service| Service::NAMES[service].into());
         for number in (0..NUMBERS).filter(|number| MUST.iter().any(|must| must.contains(number))) {
@@ -344,6 +350,12 @@ impl Counts {
             }
         }
     }
+}
+
+/// A row of a table that has a column for each service.
+pub fn row(name: &str, cell: &dyn Fn(usize) -> String) {
+    let cells: String = (0..SERVICES).map(|service| format!(" {:>12}", cell(service))).collect();
+    println!("{name:>8}{cells}");
 }
 
 /// A count with a comma before every three figures.

@@ -3,7 +3,7 @@
 use crate::random::Random;
 
 /// How many words are watched on either side.
-const WATCHED: usize = 16;
+pub const WATCHED: usize = 16;
 /// The longest stretch that is ever lent.
 pub const LONGEST: usize = 24_000;
 const ROOM: usize = LONGEST + 3 * WATCHED;
@@ -92,8 +92,13 @@ impl Lent {
         self.words[front.clone()] == self.before[front] && self.words[behind.clone()] == self.before[behind]
     }
 
-    /// The words with those in front and behind: for faults that change them.
-    pub fn with_outside(&mut self) -> &mut [u32] {
+    /// The words with those in front and behind.
+    pub fn with_outside(&self) -> &[u32] {
+        &self.words[self.start - WATCHED..self.start + self.length + WATCHED]
+    }
+
+    /// The same, for faults that change them.
+    pub fn with_outside_mut(&mut self) -> &mut [u32] {
         &mut self.words[self.start - WATCHED..self.start + self.length + WATCHED]
     }
 }

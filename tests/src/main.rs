@@ -1,6 +1,7 @@
 //! The cross-checks: an independent program that calls the library and compares every word of its answers and of all
 //! buffers.
 
+mod beside;
 mod calls;
 mod cases;
 mod checkers;
@@ -10,6 +11,7 @@ mod damage;
 mod disagreement;
 mod faults;
 mod lent;
+mod object;
 mod program;
 mod random;
 mod reference;
@@ -20,11 +22,13 @@ mod shapes;
 mod trimmed;
 mod words;
 
+use beside::Older;
 use std::process::ExitCode;
 
 const USAGE: &str =
     "cross-checks [--calls N] [--seed S] [--threads T]   random calls; 100,000 with seed 1 in one thread unless said
 cross-checks --round R                              one round again, by the seed that a disagreement prints
+cross-checks --beside LIBRARY [..]                  with one of these: an older build, a shared object, makes each call too
 cross-checks --program PATH [--seed S]              the printing program too
 cross-checks --sample LOG                           the text stored beside a log, with .out for its ending
 cross-checks --faults                               deliberate faults, each of which must be caught
@@ -36,6 +40,7 @@ pub struct Wanted {
     seed: u64,
     threads: usize,
     round: Option<u64>,
+    older: Option<Older>,
     program: Option<String>,
     sample: Option<String>,
     faults: bool,
@@ -54,6 +59,7 @@ fn wanted() -> Result<Wanted, String> {
         seed: 1,
         threads: 1,
         round: None,
+        older: None,
         program: None,
         sample: None,
         faults: false,
@@ -73,6 +79,7 @@ fn wanted() -> Result<Wanted, String> {
             "--threads" => wanted.threads = threads(figure()?)?,
             "--fault" => wanted.fault = Some(figure()? as usize),
             "--round" => wanted.round = Some(figure()?),
+            "--beside" => wanted.older = Some(Older::open(&value)?),
             "--program" => wanted.program = Some(value),
             "--sample" => wanted.sample = Some(value),
             _ => return Err(format!("what is {option}?")),
@@ -94,7 +101,7 @@ fn main() -> ExitCode {
     } else if let Some(index) = wanted.fault {
         runs::one_fault(index)
     } else if let Some(seed) = wanted.round {
-        runs::one_round(seed)
+        runs::one_round(seed, wanted.older)
     } else if let Some(log) = wanted.sample {
         program::sample(&log)
     } else {

@@ -1,6 +1,7 @@
 //! Runs: the cases and the random calls, in one or more threads; one round again; and the faults.
 
 use crate::Wanted;
+use crate::beside::{Beside, Older};
 use crate::calls::Caller;
 use crate::checks::{CHECKS, Check, Checked, Disagreement, name};
 use crate::counts::{Counts, grouped};
@@ -41,9 +42,16 @@ fn random_calls(services: impl Services, calls: u64, seed: u64, thread: usize, s
     (caller.counts, true)
 }
 
-/// The cases, then the random calls, then the table.
+/// The cases, then the random calls, then the table; beside an older build where one is given.
 pub fn checks(wanted: &Wanted) -> bool {
-    let mut caller = Caller::new(Library);
+    match wanted.older {
+        Some(older) => checks_of(wanted, || Beside::new(Library, older)),
+        None => checks_of(wanted, || Library),
+    }
+}
+
+fn checks_of<S: Services>(wanted: &Wanted, services: impl Fn() -> S + Sync) -> bool {
+    let mut caller = Caller::new(services());
     if let Err(found) = guarded(&mut caller, cases::all) {
         disagreement::show(&found, "a case");
         return false;
@@ -55,8 +63,9 @@ pub fn checks(wanted: &Wanted) -> bool {
     let threads = wanted.threads as u64;
     let results: Vec<(Counts, bool)> = std::thread::scope(|scope| {
         let share = |thread: u64| wanted.calls / threads + u64::from(thread < wanted.calls % threads);
-        let stop = &stop;
-        let start = |thread: u64| scope.spawn(move || random_calls(Library, share(thread), wanted.seed, thread as usize, stop));
+        let (stop, services) = (&stop, &services);
+        let start =
+            |thread: u64| scope.spawn(move || random_calls(services(), share(thread), wanted.seed, thread as usize, stop));
         let running: Vec<_> = (0..threads).map(start).collect();
         running.into_iter().map(|thread| thread.join().expect("a thread ends")).collect()
     });
@@ -78,6 +87,13 @@ pub fn checks(wanted: &Wanted) -> bool {
         wanted.threads,
         grouped((counts.calls as f64 / seconds) as u64),
     );
+    if wanted.older.is_some() {
+        if counts.beside.is_empty() {
+            println!("nothing was compared with the older build");
+            return false;
+        }
+        counts.beside.print();
+    }
     if wanted.calls < DEFAULT_CALLS {
         println!("fewer than {} calls: it is not asked how often everything was met", grouped(DEFAULT_CALLS));
         return true;
@@ -93,8 +109,15 @@ pub fn checks(wanted: &Wanted) -> bool {
 }
 
 /// One round again.
-pub fn one_round(seed: u64) -> bool {
-    let mut caller = Caller::new(Library);
+pub fn one_round(seed: u64, older: Option<Older>) -> bool {
+    match older {
+        Some(older) => round_of(Beside::new(Library, older), seed),
+        None => round_of(Library, seed),
+    }
+}
+
+fn round_of(services: impl Services, seed: u64) -> bool {
+    let mut caller = Caller::new(services);
     match guarded(&mut caller, |caller| rounds::round(caller, seed)) {
         Ok(()) => {
             println!("round {seed}: {} calls, no disagreement", caller.counts.calls);
@@ -118,8 +141,7 @@ pub fn one_fault(index: usize) -> bool {
 }
 
 /// The checks that catch a fault within the default number of calls, and after how many.
-fn random_catch(fault: Fault) -> Option<(u64, Vec<Check>)> {
-    let mut caller = Caller::new(Faulty(fault));
+fn random_catch(mut caller: Caller<impl Services>) -> Option<(u64, Vec<Check>)> {
     for index in 0.. {
         if let Err(found) = guarded(&mut caller, |caller| rounds::round(caller, round_seed(1, 0, index))) {
             return Some((caller.counts.calls, names(&found)));
@@ -154,6 +176,13 @@ fn bare_catch(fault: Fault) -> Vec<Check> {
     CHECKS.iter().map(|row| row.0).filter(|check| caught.contains(check)).collect()
 }
 
+/// What catches a fault where the library without it is the older build, and the reference is not asked.
+fn older_catch(fault: Fault) -> Vec<Check> {
+    let mut caller = Caller::new(Beside::new(Faulty(fault), Older::linked()));
+    caller.bare = true;
+    random_catch(caller).map_or(Vec::new(), |caught| caught.1)
+}
+
 /// Runs every fault. Each must be caught, and each check must catch at least one.
 pub fn faults() -> bool {
     let mut good = true;
@@ -164,7 +193,7 @@ pub fn faults() -> bool {
     println!("number | fault | calls | caught by | by properties and worked cases alone");
     for (index, &(fault, what)) in FAULTS.iter().enumerate() {
         let alone = bare_catch(fault);
-        match random_catch(fault) {
+        match random_catch(Caller::new(Faulty(fault))) {
             Some((calls, checks)) => {
                 let alone_text = if alone.is_empty() { "-".to_string() } else { listed(&alone) };
                 println!("{index} | {what} | {calls} | {} | {alone_text}", listed(&checks));
@@ -176,6 +205,12 @@ pub fn faults() -> bool {
             }
         }
         caught.extend(alone);
+        let older = older_catch(fault);
+        if !older.iter().any(|check| matches!(check, Check::Older | Check::Ends)) {
+            println!("{index} | {what} | NOT CAUGHT beside the library without it | - | -");
+            good = false;
+        }
+        caught.extend(older);
     }
     for (check, name, _) in CHECKS.iter().filter(|row| !caught.contains(&row.0)) {
         println!("NO FAULT is caught by the check {name} ({check:?})");

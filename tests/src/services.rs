@@ -33,6 +33,16 @@ pub enum Door {
     C,
 }
 
+/// How the last call went beside an older build.
+#[derive(Default)]
+pub enum Compared {
+    #[default]
+    Not,
+    Same,
+    /// What differs.
+    Other(String),
+}
+
 /// The services. They get the buffers with what stands around them, so that a fault can change that too.
 pub trait Services {
     fn read(&mut self, door: Door, log: &mut Lent) -> ReadAnswer;
@@ -40,14 +50,21 @@ pub trait Services {
     fn fair_copy(&mut self, door: Door, log: &mut Lent, out: &mut Lent, work: &mut Lent) -> Answer;
     fn trimmed_copy(&mut self, door: Door, log: &mut Lent, out: &mut Lent, work: &mut Lent) -> Answer;
     fn thread(&mut self, door: Door, report: &mut Lent, i: usize) -> ThreadAnswer;
+
+    fn compared(&mut self) -> Compared {
+        Compared::Not
+    }
 }
 
 /// The library as it is.
 pub struct Library;
 
 /// The functions of include/zohapy.h.
-mod header {
+pub mod header {
     use super::{Answer, ReadAnswer, ThreadAnswer};
+
+    pub type Reading = unsafe extern "C" fn(*const u32, usize) -> ReadAnswer;
+    pub type Threading = unsafe extern "C" fn(*const u32, usize, usize) -> ThreadAnswer;
 
     /// A service that writes to a lent output.
     pub type Lending = unsafe extern "C" fn(*const u32, usize, *mut u32, usize, *mut u32, usize) -> Answer;
@@ -83,7 +100,7 @@ mod header {
 }
 
 /// A call of one of the header's services that write to a lent output.
-fn lending(service: header::Lending, log: &[u32], out: &mut [u32], work: &mut [u32]) -> Answer {
+pub fn lending(service: header::Lending, log: &[u32], out: &mut [u32], work: &mut [u32]) -> Answer {
     // SAFETY: the pointers and the lengths are those of three slices, and no two of them share a word.
     unsafe { service(log.as_ptr(), log.len(), out.as_mut_ptr(), out.len(), work.as_mut_ptr(), work.len()) }
 }
