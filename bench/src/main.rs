@@ -2,8 +2,18 @@
 //!
 //! - `measurements times [ROUNDS]` checks the answers of both programs, and prints tables of times;
 //! - `measurements call PROGRAM LOG` makes one call, for a count of its instructions.
+//!
+//! And an older build of the library beside a newer one, each a shared object:
+//!
+//! - `measurements beside OLD NEW [OLD NEW ..]` checks that both answer alike, and prints a table of times. Several pairs are the
+//!   same two builds at other places;
+//! - `measurements called LIBRARY SERVICE LOG` makes one call of such a build.
 
+mod beside;
+mod builds;
 mod checks;
+#[path = "../../tests/src/object.rs"]
+mod object;
 mod plain;
 mod services;
 mod shapes;
@@ -44,6 +54,8 @@ fn run(words: &[&str]) -> Option<()> {
         ["times"] => times::print(3001),
         ["times", rounds] => times::print(rounds.parse().ok()?),
         ["call", program, key] => call(program, &log_named(key)?)?,
+        ["beside", _, _, ..] if words.len() % 2 == 1 => beside::print(&words[1..]),
+        ["called", library, service, key] => beside::call(library, service, key)?,
         _ => return None,
     }
     Some(())
@@ -55,6 +67,8 @@ fn main() {
     if run(&words).is_none() {
         eprintln!("measurements times [ROUNDS] | measurements call PROGRAM LOG");
         eprintln!("PROGRAM: read report fair-copy trimmed-copy plain-report plain-trimmed-copy");
+        eprintln!("measurements beside OLD NEW [OLD NEW ..] | measurements called LIBRARY SERVICE LOG");
+        eprintln!("SERVICE: read report fair-copy trimmed-copy");
         std::process::exit(2);
     }
 }

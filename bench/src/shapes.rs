@@ -38,15 +38,14 @@ pub fn log_of(n: usize, links: &[(usize, usize)]) -> Vec<u32> {
     std::iter::once(0x1000_0000 + n as u32).chain(groups).chain([end]).collect()
 }
 
-/// A log with a group for each episode that has links.
-pub fn grouped_log_of(n: usize, links: &[(usize, usize)]) -> Vec<u32> {
-    let mut log = vec![0x1000_0000 + n as u32];
-    for a in 0..n {
-        let mut to = links.iter().filter(|link| link.0 == a).map(|link| 0x3000_0000 + link.1 as u32).peekable();
-        if to.peek().is_some() {
-            log.push(0x2000_0000 + a as u32);
-            log.extend(to);
-        }
+/// A log with a group for each `size` links of an episode, and for those that are left.
+fn log_in_groups(size: usize, links: &[(usize, usize)]) -> Vec<u32> {
+    let mut sorted = links.to_vec();
+    sorted.sort_by_key(|link| link.0);
+    let mut log = vec![0x1000_0000 + EPISODES as u32];
+    for group in sorted.chunk_by(|one, next| one.0 == next.0).flat_map(|links| links.chunks(size)) {
+        log.push(0x2000_0000 + group[0].0 as u32);
+        log.extend(group.iter().map(|link| 0x3000_0000 + link.1 as u32));
     }
     log.push(0xF000_0000 + links.len() as u32);
     log
@@ -118,8 +117,20 @@ fn shuffled(seed: u64, links: Links) -> Links {
     links.into_iter().map(|(a, b)| (new[a], new[b])).collect()
 }
 
-/// Logs of 200 episodes, with 4,096 to words where there are links at all: shorter lists of links are given again and again.
-pub fn all() -> Vec<Shape> {
+/// 256 times 16 random links from one episode to higher numbers. A link may come again.
+fn sixteens(seed: u64) -> Links {
+    let mut numbers = Numbers::from_seed(seed);
+    let earlier = random(seed, EPISODES, EPISODES, WORDS / 16).into_iter().flat_map(|(a, _)| [a; 16]);
+    earlier.map(|a| (a, a + 1 + numbers.below(EPISODES - 1 - a))).collect()
+}
+
+/// The first 4,096 links to higher numbers. So many different ones without a loop stand in no fewer groups.
+fn first_links() -> Links {
+    (0..EPISODES).flat_map(|a| (a + 1..EPISODES).map(move |b| (a, b))).take(WORDS).collect()
+}
+
+/// Keys, names and links, of which there are 4,096 or none: shorter lists are given again and again.
+fn linked() -> Vec<(&'static str, &'static str, Links)> {
     let chain: Links = (0..EPISODES - 1).map(|a| (a, a + 1)).collect();
     let dense = || random(2, EPISODES, EPISODES, WORDS);
     let shapes = vec![
@@ -138,9 +149,63 @@ pub fn all() -> Vec<Shape> {
         ("many-shrinks", "many shrinks", turned(random(926_366, EPISODES, 27, 1293))),
         ("long-searches", "long searches", shuffled(7, random(139_996, EPISODES, 176, 1898))),
     ];
-    let again = |links: Links| links.iter().copied().cycle().take(WORDS).collect::<Links>();
-    let shape = |(key, name, links)| Shape { key, name, log: log_of(EPISODES, &again(links)) };
-    let mut shapes: Vec<Shape> = shapes.into_iter().map(shape).collect();
-    shapes.push(Shape { key: "night", name: "a night of nine sleepers", log: grouped_log_of(EPISODES, &night()) });
+    let again = |links: Links| links.iter().copied().cycle().take(WORDS).collect();
+    shapes.into_iter().map(|(key, name, links)| (key, name, again(links))).collect()
+}
+
+/// Logs of 200 episodes, with 4,096 to words where there are links at all.
+pub fn all() -> Vec<Shape> {
+    let shape = |(key, name, links): (_, _, Links)| Shape { key, name, log: log_of(EPISODES, &links) };
+    let mut shapes: Vec<Shape> = linked().into_iter().map(shape).collect();
+    shapes.push(Shape { key: "night", name: "a night of nine sleepers", log: log_in_groups(WORDS, &night()) });
     shapes
+}
+
+/// Keys and logs with 4,096 to words, in groups of several lengths. The first three have the same links in the same order; the
+/// others have a group for each episode.
+pub fn in_groups() -> Vec<(&'static str, Vec<u32>)> {
+    let links = sixteens(6);
+    let mut logs = vec![
+        ("by-episode", log_in_groups(WORDS, &links)),
+        ("by-16", log_in_groups(16, &links)),
+        ("by-1", log_in_groups(1, &links)),
+        ("first-links", log_in_groups(WORDS, &first_links())),
+    ];
+    let keys = ["chain", "dense", "dense-falling", "two-layers", "ten-layers", "wrong-choices"];
+    let chosen = linked().into_iter().filter(|(key, ..)| keys.contains(key));
+    logs.extend(chosen.map(|(key, _, links)| (key, log_in_groups(WORDS, &links))));
+    logs
+}
+
+#[cfg(test)]
+mod tests {
+    use super::*;
+
+    /// How many groups a log has, and its links.
+    fn taken_apart(log: &[u32]) -> (usize, Links) {
+        let groups = log.iter().filter(|&&word| zohapy::kind(word) == 2).count();
+        let links = zohapy::links(log).expect("the log passes");
+        (groups, links.iter().map(|link| (link.from as usize, link.to as usize)).collect())
+    }
+
+    fn log(key: &str) -> Vec<u32> {
+        in_groups().into_iter().find(|log| log.0 == key).expect("it is one of the logs").1
+    }
+
+    #[test]
+    fn groups_are_as_long_as_said() {
+        let (groups, links) = taken_apart(&log("by-episode"));
+        assert_eq!(groups, links.chunk_by(|one, next| one.0 == next.0).count());
+        assert_eq!(taken_apart(&log("by-16")), (256, links.clone()));
+        assert_eq!(taken_apart(&log("by-1")), (4096, links));
+        assert_eq!(taken_apart(&log("first-links")), (22, first_links()));
+    }
+
+    #[test]
+    fn each_log_is_full_and_has_no_loop() {
+        for (key, log) in in_groups() {
+            assert_eq!(zohapy::read(&log), Ok(zohapy::Reading { episodes: EPISODES, links: WORDS }), "{key}");
+            assert!(zohapy::Report::of(&log).is_ok(), "{key}");
+        }
+    }
 }

@@ -35,17 +35,18 @@ impl Row {
 #[derive(Default)]
 struct Times([Vec<f64>; 2]);
 
-fn least(times: &[f64]) -> f64 {
+pub fn least(times: &[f64]) -> f64 {
     times.iter().copied().fold(f64::INFINITY, f64::min)
 }
 
-fn middle(times: &[f64]) -> f64 {
+/// The middle one, or the mean of the two in the middle.
+pub fn middle(times: &[f64]) -> f64 {
     let mut sorted = times.to_vec();
     sorted.sort_by(f64::total_cmp);
-    sorted[sorted.len() / 2]
+    (sorted[(sorted.len() - 1) / 2] + sorted[sorted.len() / 2]) / 2.0
 }
 
-fn microseconds<T>(call: impl FnOnce() -> T) -> f64 {
+pub fn microseconds<T>(call: impl FnOnce() -> T) -> f64 {
     let start = Instant::now();
     black_box(call());
     start.elapsed().as_nanos() as f64 / 1000.0
