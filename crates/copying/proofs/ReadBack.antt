@@ -26,10 +26,11 @@ use Rattle.log.specs.Words.{number, word, toWord, Small}
 use Rattle.log.specs.Content.{Heard, joins}
 use Rattle.log.specs.Answer.{Answer, given, andThen}
 use Rattle.log.specs.Log.{headWord, onwards, questions, heardFrom, contentOf, graphOf}
+use Rattle.log.specs.Groups.{lastFrom}
 use Rattle.log.specs.declared.Ceilings.{Ceilings}
 use Rattle.log.proofs.Words.{kind-word, number-word, to-kind, to-episode, to-pause}
 use Rattle.log.proofs.Asked.{FromTaken, ToTaken, there-to, from-given, to-given, end-given}
-use Rattle.log.proofs.Links.{heard-from, heard-to, heard-end, heard-nil, heard-append, lastFrom}
+use Rattle.log.proofs.Links.{heard-from, heard-to, heard-end, heard-nil, heard-append}
 use Rattle.copying.specs.FairCopy.{linkedTo, group, groups, groupLinks, copyWords}
 use Rattle.copying.proofs.Linked.{linkedTo-mem}
 use Rattle.copying.proofs.GroupLinks.{linksOf, length-group-links}

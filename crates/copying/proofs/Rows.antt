@@ -15,9 +15,8 @@ use Rattle.paths.proofs.Passing.{passing-equal}
 use Rattle.log.specs.Words.{kind, number, toEpisode, toPause}
 use Rattle.log.specs.Content.{Heard, Content, joins, pausesOf, least, leastPause}
 use Rattle.log.specs.Log.{toBeforeLast, contentOf, graphOf, PassedLog}
-use Rattle.log.specs.Groups.{ToWords}
+use Rattle.log.specs.Groups.{heardBefore, nearestFrom, ToWords}
 use Rattle.log.proofs.Asked.{to-there}
-use Rattle.log.proofs.Links.{heardBefore, nearestFrom}
 use Rattle.log.proofs.Pauses.{pauses-append, pauses-one, pauses-none, pauses-heard, heard-pauses, link-heard, least-mem, least-more}
 use Rattle.log.proofs.Laws.{graph-episodes, to-word, before-head, pass-from, pass-to, heard-passed}
 use Rattle.log.proofs.Walk.{no-words, words-more, along, nearest-same, GroupHere, first-here, to-follows, next-here}

@@ -10,8 +10,7 @@ use Rattle.paths.specs.Graph.{Graph}
 use Rattle.paths.specs.Passing.{passing}
 use Rattle.log.specs.Content.{Content, pausesOf, least}
 use Rattle.log.specs.Log.{contentOf}
-use Rattle.log.specs.Groups.{ToWords}
-use Rattle.log.proofs.Links.{heardBefore}
+use Rattle.log.specs.Groups.{heardBefore, ToWords}
 use Rattle.copying.specs.FairCopy.{group, groups, groupLinks}
 use Rattle.writing.specs.Layout.{BeginsWith}
 

@@ -8,7 +8,7 @@ ghost use lib.ListN.{length, getD, replicate, set};
 ghost use Rattle.log.specs.Words.{word, Small};
 ghost use Rattle.log.specs.Content.{leastPause};
 ghost use Rattle.log.specs.Log.{toBeforeLast, contentOf, graphOf, PassedLog};
-ghost use Rattle.log.proofs.Links.{nearestFrom};
+ghost use Rattle.log.specs.Groups.{nearestFrom};
 ghost use Rattle.writing.specs.Layout.{BeginsWith};
 ghost use Rattle.copying.specs.FairCopy.{linkedTo, group, fairWords};
 ghost use Rattle.copying.specs.Copying.{blockWords, rowAt, BlockMarks, Lowered, GroupTaken, marked, pauseAt, groupLength, GroupWritten, GroupsWritten};

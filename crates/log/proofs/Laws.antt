@@ -9,10 +9,11 @@ use Rattle.log.specs.Words.{kind, number, toEpisode, toPause, Small}
 use Rattle.log.specs.Content.{Heard, joins}
 use Rattle.log.specs.Answer.{given}
 use Rattle.log.specs.Log.{figure, questions, contentOf, graphOf, PassedLog}
+use Rattle.log.specs.Groups.{heardBefore, linksBefore, nearestFrom}
 use Rattle.log.specs.declared.Ceilings.{Ceilings}
 use Rattle.log.proofs.Words.{number-lt, figure-from, figure-to}
 use Rattle.log.proofs.Links as links
-use Rattle.log.proofs.Links.{heard-count, heard-fits, heardBefore, linksBefore, nearestFrom}
+use Rattle.log.proofs.Links.{heard-count, heard-fits}
 use Rattle.log.proofs.WellFormed as forms
 use Rattle.log.proofs.WellFormed.{WellFormed}
 

@@ -7,7 +7,6 @@ use mathlib.Core.List.{
   [],
   _∷_,
   _++_,
-  map,
   append-nil,
   List·Memᴰ as Mem,
   List·Memᴰ·not-nil as not-nil,
@@ -16,12 +15,13 @@ use mathlib.Core.List.{
 use Prim.Native.Nat.{ℕ, suc, _+_, _<_, _^_}
 use native.Mathlib.Omega.{arith}
 use native.Mathlib.Numerals.{add-one}
-use lib.ListN.{length, getD, take, drop}
+use lib.ListN.{length, getD, take}
 use lib.Seq.{take-suc, drop-append-le, take-length, length-take-le}
 use borrow.Author.Tests.{eqb-true}
 use Rattle.log.specs.Words.{kind, number, toEpisode, toPause}
-use Rattle.log.specs.Content.{Heard, joins}
+use Rattle.log.specs.Content.{Heard}
 use Rattle.log.specs.Log.{isFrom, isTo, counted, heardFrom, contentOf}
+use Rattle.log.specs.Groups.{lastFrom, before, heardBefore, nearestFrom}
 
 module _ (a w : ℕ) (rest : List ℕ) where
   pub heard-from : kind w ≡ 2 → heardFrom a (w ∷ rest) ≡ heardFrom (number w) rest
@@ -92,11 +92,6 @@ heard-fits a (w ∷ rest) h m = by-kind (isFrom w) (isTo w) refl refl (λ b. hea
         (mem-cases (rw (f, g, heardFrom) at i))
     by-kind false false f g more i = more a (rw (f, g, heardFrom) at i)
 
--- the episode of the last from word among the words, or `a` if there is none
-unfoldable pub lastFrom : ℕ → List ℕ → ℕ
-lastFrom a [] = a
-lastFrom a (w ∷ rest) = elim (isFrom w) [ true ↦ lastFrom (number w) rest | false ↦ lastFrom a rest ]
-
 module _ (a w : ℕ) where
   pub last-from : kind w ≡ 2 → lastFrom a (w ∷ []) ≡ number w
   unfolding lastFrom
@@ -119,20 +114,6 @@ heard-append a (w ∷ xs) ys = by-kind (isFrom w) (isTo w) refl refl (λ b. hear
         rw (f, g, heardFrom, lastFrom)
         (ap (λ (l : List Heard). record { from = a; to = toEpisode w; pause = toPause w } ∷ l) (more a))
     by-kind false false f g more = rw (f, g, heardFrom, lastFrom) (more a)
-
--- the words behind the head and before place `p`
-abbrev pub before : List ℕ → ℕ → List ℕ
-before l p = drop 1 (take p l)
-
--- the links of the words before place `p`, with and without their pauses, and the nearest from word before it
-unfoldable pub heardBefore : List ℕ → ℕ → List Heard
-heardBefore l p = heardFrom 0 (before l p)
-
-abbrev pub linksBefore : List ℕ → ℕ → List (ℕ × ℕ)
-linksBefore l p = map joins (heardBefore l p)
-
-unfoldable pub nearestFrom : List ℕ → ℕ → ℕ
-nearestFrom l p = lastFrom 0 (before l p)
 
 before-next : (l : List ℕ) (p : ℕ) → 0 < p → p < length l → before l (p + 1) ≡ before l p ++ getD l p 0 ∷ []
 before-next l p h g =

@@ -9,9 +9,9 @@ use native.Mathlib.Omega.{arith}
 use lib.ListN.{length, getD}
 use Rattle.log.specs.Words.{kind}
 use Rattle.log.specs.Log.{toBeforeLast, PassedLog}
-use Rattle.log.specs.Groups.{ToWords}
+use Rattle.log.specs.Groups.{nearestFrom, ToWords}
 use Rattle.log.proofs.Asked.{to-there, there-to}
-use Rattle.log.proofs.Links.{nearestFrom, pass-to}
+use Rattle.log.proofs.Links.{pass-to}
 use Rattle.log.proofs.WellFormed.{well-formed}
 
 -- from one place up to another

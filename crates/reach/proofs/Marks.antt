@@ -22,7 +22,7 @@ use native.Mathlib.Omega.{arith}
 use lib.ListN.{length, getD}
 use Rattle.log.specs.Words.{number, toEpisode}
 use Rattle.log.specs.Content.{joins}
-use Rattle.log.proofs.Links.{linksBefore, nearestFrom}
+use Rattle.log.specs.Groups.{linksBefore, nearestFrom}
 use Rattle.log.proofs.Asked.{to-there}
 use Rattle.log.proofs.Laws.{from-word, to-word, before-head, pass-from, links-to, heard-passed}
 use Rattle.log.proofs.Walk.{no-words, words-more, nearest-same, GroupHere, first-here, to-follows, next-here}

@@ -6,8 +6,7 @@ use lib.ListN.{getD}
 use Rattle.paths.specs.Graph.{Graph, EndsBelow, Link, Way}
 use Rattle.paths.specs.Closure.{WayBelow}
 use Rattle.log.specs.Log.{graphOf}
-use Rattle.log.specs.Groups.{ToWords}
-use Rattle.log.proofs.Links.{linksBefore}
+use Rattle.log.specs.Groups.{linksBefore, ToWords}
 use Rattle.bits.specs.Bits.{bit}
 use Rattle.bits.specs.Work.{linksAt, waysAt, matrixWords, Matrix, Outside, nextAt}
 

@@ -4,7 +4,7 @@ ghost use mathlib.Core.Bool.{true, false};
 ghost use Prim.Native.Nat.{_+_, _*_, _<_, _≤_};
 ghost use lib.ListN.{length};
 ghost use Rattle.log.specs.Log.{toBeforeLast, graphOf, PassedLog};
-ghost use Rattle.log.proofs.Links.{nearestFrom};
+ghost use Rattle.log.specs.Groups.{nearestFrom};
 ghost use Rattle.bits.specs.Work.{linksAt, nextAt};
 ghost use Rattle.rising.specs.Rising.{NoWays};
 ghost use Rattle.reach.specs.Reach.{NoneMarked, GroupMarked, LinksMarked, LinksCopied, RowClosed, RoundClosed, Closed, WaysReached};

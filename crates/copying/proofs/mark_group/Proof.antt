@@ -9,7 +9,7 @@ use borrow.Author.Needs.{needs}
 use borrow.Author.Tests.{not-true, not-false}
 use lib.ListN.{length}
 use Rattle.log.specs.Log.{toBeforeLast}
-use Rattle.log.proofs.Links.{nearestFrom}
+use Rattle.log.specs.Groups.{nearestFrom}
 use Rattle.copying.specs.Copying.{GroupTaken}
 use Rattle.copying.proofs.Rows.{group-first, to-fits, group-more}
 use Rattle.copying.proofs.mark_group.Statement.{statement}

@@ -6,7 +6,7 @@ use Prim.Native.Nat.{ℕ, _+_, _/_, _<_}
 use native.Mathlib.Omega.{arith}
 use lib.ListN.{length}
 use Rattle.log.proofs.Asked.{to-there}
-use Rattle.log.proofs.Links.{nearestFrom}
+use Rattle.log.specs.Groups.{nearestFrom}
 use Rattle.log.proofs.Walk.{words-before}
 use Rattle.copying.specs.Copying.{rowAt}
 use Rattle.copying.proofs.Rows.{group-passed}

@@ -4,11 +4,9 @@
 -- Assumes nothing.
 use borrow.Author.Needs.{needs}
 use native.Mathlib.Omega.{arith}
-use mathlib.Core.Path.{_∙_, sym}
 use Prim.Native.Nat.{_≤_, _-_}
 use lib.ListN.{length}
 use denote.Ref.{now}
-use Rattle.log.proofs.Asked.{to-there}
 use Rattle.log.proofs.Groups.{AtGroup, InGroup, first-group, from-taken, from-given-up, to-taken, to-given-up, group-ends, at-last}
 use Rattle.log.proofs.first_stop.Statement.{statement}
 use Rattle.log.proofs.first_stop.Tie as tie
