@@ -41,12 +41,13 @@ taking-start w x first v h =
       no-other = λ c hc o. inl o;
     }
 
-module _ {w v v′ u : List ℕ} {x first rest : ℕ} (s : Taking w x first v v′ rest) (some : 0 < rest)
-    (q : RowAdded w (waysAt + 8 * (first + trailingZeros 32 rest)) v′ u) where
+-- the row of the lowest digit of `rest`, which starts at word `row`, is joined
+module _ {w v v′ u : List ℕ} {x first rest row : ℕ} (s : Taking w x first v v′ rest) (some : 0 < rest)
+    (place : row ≡ waysAt + 8 * (first + trailingZeros 32 rest)) (q : RowAdded w row v′ u) where
   kept : (c : ℕ) → c < 256 → bit v′ 0 c ≡ 1 → bit u 0 c ≡ 1
-  kept c hc o = omega (arith, q .joined c hc, bit-lt w (waysAt + 8 * (first + trailingZeros 32 rest)) c)
+  kept c hc o = omega (arith, q .joined c hc, bit-lt w row c)
 
-  here : (c : ℕ) → c < 256 → bit w (waysAt + 8 * (first + trailingZeros 32 rest)) c ≡ 1 → bit u 0 c ≡ 1
+  here : (c : ℕ) → c < 256 → bit w row c ≡ 1 → bit u 0 c ≡ 1
   here c hc o = omega (arith, q .joined c hc, bit-lt v′ 0 c)
 
   pub taking-on : Taking w x first v u (bitXor rest (1 * 2 ^ trailingZeros 32 rest % 4294967296))
@@ -63,7 +64,7 @@ module _ {w v v′ u : List ℕ} {x first rest : ℕ} (s : Taking w x first v v�
       new : (j c : ℕ) → j < trailingZeros 32 rest + 1 → c < 256 → digit x j ≡ 1 → bit w (waysAt + 8 * (first + j)) c ≡ 1 → Dec (j < s .k)
           → Dec (j ≡ trailingZeros 32 rest) → bit u 0 c ≡ 1
       new j c l hc d o (yes h) e = kept c hc (s .new j c h hc d o)
-      new j c l hc d o (no h) (yes e) = here c hc (rw e at o)
+      new j c l hc d o (no h) (yes e) = here c hc (rw (place, sym e) o)
       new j c l hc d o (no h) (no ne) =
           let z = rest-none (s .digits) some j (omega arith) (omega (arith, ne)) in
           absurd (omega arith)
@@ -76,7 +77,7 @@ module _ {w v v′ u : List ℕ} {x first rest : ℕ} (s : Taking w x first v v�
             trailingZeros 32 rest,
             rest-below (s .digits) some,
             rest-here (s .digits) some,
-            omega (arith, ne, q .joined c hc, bit-lt v′ 0 c, bit-lt w (waysAt + 8 * (first + trailingZeros 32 rest)) c),
+            rw (sym place) (omega (arith, ne, q .joined c hc, bit-lt v′ 0 c, bit-lt w row c)),
           )
 
 pub taking-end : {w v v′ : List ℕ} {x first rest : ℕ} → Taking w x first v v′ rest → rest ≡ 0 → WaysAdded w x first v v′
@@ -100,20 +101,20 @@ record Row (g : Graph) (v : List ℕ) (a b : ℕ) : Type 0 where
   closed : (c d : ℕ) → c < 256 → d < 256 → bit v 0 c ≡ 1 → Way g c d → bit v 0 d ≡ 1
   taken : (x d : ℕ) → x < b → x < 256 → d < 256 → Link g a x → Way g x d → bit v 0 d ≡ 1
 
--- after the first `i` words of its links
-pub record Noting (w v : List ℕ) (a i : ℕ) : Type 0 where
+-- after the first `i` words of its links, which start at word `from`
+pub record Noting (w v : List ℕ) (from i : ℕ) : Type 0 where
   pub size : length v ≡ 8
   pub at-most : i ≤ 8
-  row : (g : Graph) (n : ℕ) → Held g n w → Row g v a (32 * i)
+  row : (a : ℕ) → from ≡ linksAt + 8 * a → (g : Graph) (n : ℕ) → Held g n w → Row g v a (32 * i)
 
-pub noting-start : (w v : List ℕ) (a : ℕ) → v ≡ replicate 8 0 → Noting w v a 0
-noting-start w v a e =
+pub noting-start : (w v : List ℕ) (from : ℕ) → v ≡ replicate 8 0 → Noting w v from 0
+noting-start w v from e =
     let none : (c : ℕ) → c < 256 → bit v 0 c ≡ 1 → ⊥ = λ c hc o.
     let z = bits-zero v 0 c (rw e (getD-replicate 8 (0 + c / 32) 0 0 (omega arith))) in omega arith in
     record {
       size = ap length e;
       at-most = omega arith;
-      row = λ g n held.
+      row = λ a p g n held.
           record {
             sound = λ c hc o. absurd (none c hc o);
             closed = λ c d hc hd o y. absurd (none c hc o);
@@ -122,32 +123,32 @@ noting-start w v a e =
     }
 
 -- the ways of one more word of links, less those that are implied, are joined
-module _ {w v v′ : List ℕ} {a i : ℕ} (ha : a < 256) (hi : i < 8) (s : Noting w v a i)
-    (q : WaysAdded w (fresh (getD w (linksAt + 8 * a + i) 0) (getD v i 0)) (32 * i) v v′) where
-  link-digit : (j : ℕ) → j < 32 → digit (getD w (linksAt + 8 * a + i) 0) j ≡ bit w (linksAt + 8 * a) (32 * i + j)
-  link-digit j h = sym (bit-digit w (linksAt + 8 * a) i j h)
+module _ {w v v′ : List ℕ} {from i : ℕ} (within : from + 8 ≤ waysAt) (hi : i < 8) (s : Noting w v from i)
+    (q : WaysAdded w (fresh (getD w (from + i) 0) (getD v i 0)) (32 * i) v v′) where
+  link-digit : (j : ℕ) → j < 32 → digit (getD w (from + i) 0) j ≡ bit w from (32 * i + j)
+  link-digit j h = sym (bit-digit w from i j h)
 
   old-digit : (j : ℕ) → j < 32 → digit (getD v i 0) j ≡ bit v 0 (32 * i + j)
   old-digit j h = let e : 0 + i ≡ i = omega arith in sym (bit-digit v 0 i j h ∙ rw e)
 
   -- a digit is one where there is a link that is not implied
-  fresh-link : (j : ℕ) → j < 32 → digit (fresh (getD w (linksAt + 8 * a + i) 0) (getD v i 0)) j ≡ 1 → bit w (linksAt + 8 * a) (32 * i + j) ≡ 1
+  fresh-link : (j : ℕ) → j < 32 → digit (fresh (getD w (from + i) 0) (getD v i 0)) j ≡ 1 → bit w from (32 * i + j) ≡ 1
   fresh-link j h o =
       let (l, n) = fresh-one _ _ (digit-lt _ j) (digit-lt _ j) (sym (digit-fresh _ _ j) ∙ o) in
       sym (link-digit j h) ∙ l
 
-  link-fresh : (j : ℕ) → j < 32 → bit w (linksAt + 8 * a) (32 * i + j) ≡ 1 → bit v 0 (32 * i + j) ≡ 0
-      → digit (fresh (getD w (linksAt + 8 * a + i) 0) (getD v i 0)) j ≡ 1
+  link-fresh : (j : ℕ) → j < 32 → bit w from (32 * i + j) ≡ 1 → bit v 0 (32 * i + j) ≡ 0
+      → digit (fresh (getD w (from + i) 0) (getD v i 0)) j ≡ 1
   link-fresh j h l n =
-      digit-fresh (getD w (linksAt + 8 * a + i) 0) (getD v i 0) j ∙ rw (link-digit j h, old-digit j h, l, n) refl
+      digit-fresh (getD w (from + i) 0) (getD v i 0) j ∙ rw (link-digit j h, old-digit j h, l, n) refl
 
-  row-on : (g : Graph) (n : ℕ) → Held g n w → Row g v′ a (32 * (i + 1))
-  row-on g n held =
+  row-on : (a : ℕ) → from ≡ linksAt + 8 * a → (g : Graph) (n : ℕ) → Held g n w → Row g v′ a (32 * (i + 1))
+  row-on a p g n held =
       record {
         sound = λ c hc o.
             ⊎-elim (r .sound c hc)
             (λ (j, hj, d, y).
-            (32 * i + j, links .sound a (32 * i + j) ha (omega arith) (fresh-link j hj d), ways .sound (32 * i + j) c (omega arith) hc y))
+            (32 * i + j, links .sound a (32 * i + j) ha (omega arith) (rw p at (fresh-link j hj d)), ways .sound (32 * i + j) c (omega arith) hc y))
             (q .no-other c hc o);
         closed = λ c d hc hd o y.
             ⊎-elim (λ e. q .old d hd (r .closed c d hc hd e y))
@@ -159,7 +160,10 @@ module _ {w v v′ : List ℕ} {a i : ℕ} (ha : a < 256) (hi : i < 8) (s : Noti
       }
     where
       r : Row g v a (32 * i)
-      r = s .row g n held
+      r = s .row a p g n held
+
+      ha : a < 256
+      ha = omega arith
 
       links : Matrix linksAt w (Link g)
       links = held .links
@@ -178,16 +182,16 @@ module _ {w v v′ : List ℕ} {a i : ℕ} (ha : a < 256) (hi : i < 8) (s : Noti
           go (yes e) = q .old d hd (r .closed x d lx hd e y)
           go (no ne) =
               q .new (x - 32 * i) d (omega arith) hd
-              (link-fresh (x - 32 * i) (omega arith) (rw place (links .complete a x ha lx l)) (rw place (omega (arith, ne, bit-lt v 0 x))))
+              (link-fresh (x - 32 * i) (omega arith) (rw (p, place) (links .complete a x ha lx l)) (rw place (omega (arith, ne, bit-lt v 0 x))))
               (rw place (ways .complete x d lx hd y))
 
-  pub noting-on : Noting w v′ a (i + 1)
+  pub noting-on : Noting w v′ from (i + 1)
   noting-on = record { size = q .same-length ∙ s .size; at-most = omega arith; row = row-on }
 
 -- all links are had
-pub noting-end : {w v : List ℕ} {a i : ℕ} → 8 ≤ i → Noting w v a i → HoldsImplied w a v
-noting-end {a = a} h s g n held c hc =
-    let r = s .row g n held in (
+pub noting-end : {w v : List ℕ} {from i : ℕ} → 8 ≤ i → Noting w v from i → (a : ℕ) → from ≡ linksAt + 8 * a → HoldsImplied w a v
+noting-end h s a p g n held c hc =
+    let r = s .row a p g n held in (
       r .sound c hc,
       λ (x, l, y).
           let e = held .ends a x l in

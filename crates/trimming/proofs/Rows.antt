@@ -80,13 +80,14 @@ fresh-test (suc zero) (suc (suc y)) h k = absurd (omega arith)
 fresh-test (suc (suc x)) y h k = absurd (omega arith)
 
 -- the test of what is kept tells the digits of word `i`
-pub word-tells : (w : List ℕ) (a : ℕ) (v : List ℕ) (i : ℕ) → TellsDigits (keptAt w a v) (fresh (getD w (linksAt + 8 * a + i) 0) (getD v i 0)) (32 * i)
-word-tells w a v i j h =
+pub word-tells : (w : List ℕ) (a row : ℕ) (v : List ℕ) (i : ℕ) → row ≡ linksAt + 8 * a
+    → TellsDigits (keptAt w a v) (fresh (getD w (row + i) 0) (getD v i 0)) (32 * i)
+word-tells w a row v i p j h =
     let e : 0 + i ≡ i = omega arith in
-    let l : bit w (linksAt + 8 * a) (32 * i + j) ≡ digit (getD w (linksAt + 8 * a + i) 0) j = bit-digit w (linksAt + 8 * a) i j h in
+    let l : bit w (linksAt + 8 * a) (32 * i + j) ≡ digit (getD w (row + i) 0) j = rw p (bit-digit w (linksAt + 8 * a) i j h) in
     let o : bit v 0 (32 * i + j) ≡ digit (getD v i 0) j = bit-digit v 0 i j h ∙ rw e in
-    rw (l, o, digit-fresh (getD w (linksAt + 8 * a + i) 0) (getD v i 0) j)
-    (fresh-test (digit (getD w (linksAt + 8 * a + i) 0) j) (digit (getD v i 0) j) (digit-lt _ j) (digit-lt _ j))
+    rw (l, o, digit-fresh (getD w (row + i) 0) (getD v i 0) j)
+    (fresh-test (digit (getD w (row + i) 0) j) (digit (getD v i 0) j) (digit-lt _ j) (digit-lt _ j))
 
 -- a group has a word for each of its links
 pub group-holds : (a : ℕ) (pause : ℕ → ℕ) (bs : List ℕ) (k : ℕ) → length (group a pause bs) < k → length bs < k

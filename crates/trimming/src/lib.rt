@@ -2,11 +2,11 @@
 ghost use mathlib.Core.Path.{_≡_};
 ghost use mathlib.Core.Bool.{Bool};
 ghost use mathlib.Core.List.{List};
-ghost use Prim.Native.Nat.{ℕ, _+_, _<_, _≤_};
+ghost use Prim.Native.Nat.{ℕ, _+_, _*_, _<_, _≤_};
 ghost use lib.ListN.{length, replicate};
 ghost use Rattle.paths.specs.Graph.{Graph};
 ghost use Rattle.paths.specs.Passing.{passing};
-ghost use Rattle.bits.specs.Work.{nextAt};
+ghost use Rattle.bits.specs.Work.{linksAt, waysAt, nextAt};
 ghost use Rattle.writing.specs.Layout.{BeginsWith};
 ghost use Rattle.writing.proofs.Listing.{Listing};
 ghost use Rattle.copying.specs.FairCopy.{linkedTo, group};
@@ -22,20 +22,21 @@ fn join_ways(w: &[u32], links: u32, first: usize, implied: &mut [u32])
     requires { ⌜ (nextAt ≤ length (now w)) × (first + 32 ≤ 256) × (length (now implied) ≡ 8) ⌝ }
     ensures { λ _. ⌜ WaysAdded (now (w .entry)) links first (now (implied .entry)) (now (implied .exit)) ⌝ }
 {
+    let ways = WAYS + 8 * first;
     let mut rest = links;
     while rest != 0 {
         let bit = u32::trailing_zeros(rest);
-        bits::join_into(w, WAYS + 8 * (first + bit as usize), implied);
+        bits::join_into(w, ways + 8 * bit as usize, implied);
         rest = rest ^ (1 << bit);
     }
 }
 
-// Notes what is implied of the links of `a`: joins the ways of each. A link that is implied itself has no way that is not noted.
-fn note_implied(w: &[u32], a: usize, implied: &mut [u32])
-    requires { ⌜ (nextAt ≤ length (now w)) × (a < 256) × (now implied ≡ replicate 8 0) ⌝ }
-    ensures { λ _. ⌜ HoldsImplied (now (w .entry)) a (now (implied .exit)) ⌝ }
+// Notes what is implied of the links in the row that starts at word `row`: joins the ways of each. A link that is implied itself has no way
+// that is not noted.
+fn note_implied(w: &[u32], row: usize, implied: &mut [u32])
+    requires { ⌜ (nextAt ≤ length (now w)) × (row + 8 ≤ waysAt) × (now implied ≡ replicate 8 0) ⌝ }
+    ensures { λ _. ⌜ ((a : ℕ) → row ≡ linksAt + 8 * a → HoldsImplied (now (w .entry)) a (now (implied .exit))) ⌝ }
 {
-    let row = LINKS + 8 * a;
     let mut i = 0;
     while i < 8 {
         let old = implied[i];
@@ -62,12 +63,11 @@ fn write_word(kept: u32, first: usize, links: usize, out: &mut [u32]) -> usize
     count
 }
 
-// Writes the group of `a` with its links that are not implied, and gives their count.
-fn write_row(w: &[u32], a: usize, implied: &[u32], out: &mut [u32]) -> usize
-    requires { ⌜ (nextAt ≤ length (now w)) × (a < 256) × (length (now implied) ≡ 8) × (length (group a (noPause a) (keptTo (now w) a (now implied))) < length (now out)) ⌝ }
+// Writes the group of `a`, whose links are the row that starts at word `row`, with those that are not implied, and gives their count.
+fn write_row(w: &[u32], a: usize, row: usize, implied: &[u32], out: &mut [u32]) -> usize
+    requires { ⌜ (nextAt ≤ length (now w)) × (a < 256) × (row ≡ linksAt + 8 * a) × (length (now implied) ≡ 8) × (length (group a (noPause a) (keptTo (now w) a (now implied))) < length (now out)) ⌝ }
     ensures { λ r. ⌜ GroupWritten a (noPause a) (keptTo (now (w .entry)) a (now (implied .entry))) (now (out .entry)) (now (out .exit)) r ⌝ }
 {
-    let row = LINKS + 8 * a;
     let mut links = 0;
     let mut i = 0;
     while i < 8 {
@@ -87,9 +87,10 @@ fn trim_row(w: &[u32], n: usize, a: usize, out: &mut [u32]) -> usize
     ensures { λ r. ⌜ ((g : Graph) → Held g n (now (w .entry))
         → GroupWritten a (noPause a) (linkedTo a (trimmed g .links) n) (now (out .entry)) (now (out .exit)) r) ⌝ }
 {
+    let row = LINKS + 8 * a;
     let mut implied = [0u32; 8];
-    note_implied(w, a, &mut implied);
-    write_row(w, a, &implied, out)
+    note_implied(w, row, &mut implied);
+    write_row(w, a, row, &implied, out)
 }
 
 // Writes the groups of all episodes behind the first word.

@@ -10,14 +10,20 @@ use Rattle.trimming.proofs.join_ways.Statement.{statement}
 use Rattle.trimming.proofs.join_ways.Tie as tie
 
 abbrev Inv-loop : tie.InvT-loop
-Inv-loop w links first implied₀ rest₀ implied rest = Taking w links first implied₀ implied rest
+Inv-loop w links first implied₀ ways rest₀ implied rest = Taking w links first implied₀ implied rest
 
 abbrev μ-loop : tie.MeasureT-loop
-μ-loop w links first implied₀ rest₀ implied rest = 32 - trailingZeros 32 rest
+μ-loop w links first implied₀ ways rest₀ implied rest = 32 - trailingZeros 32 rest
 
 -- the lowest bit is one of 32
 below : (c : tie.At-loop Inv-loop μ-loop) → 0 < c .loop .rest → trailingZeros 32 (c .loop .rest) < 32
 below c h = rest-below (c .loop .inv .digits) h
+
+mul-ways : tie.Need-mul-ways Inv-loop μ-loop
+mul-ways c = omega arith
+
+add-ways : tie.Need-add-ways Inv-loop μ-loop
+add-ways c = omega arith
 
 loop-holds : tie.Need-loop-holds Inv-loop μ-loop
 loop-holds c =
@@ -27,14 +33,11 @@ loop-holds c =
 cast-join-into : tie.Need-cast-join-into Inv-loop μ-loop
 cast-join-into c = omega (arith, below (c .before) (omega arith))
 
-add-join-into : tie.Need-add-join-into Inv-loop μ-loop
-add-join-into c = omega (arith, below (c .before) (omega arith))
-
 mul-join-into : tie.Need-mul-join-into Inv-loop μ-loop
 mul-join-into c = omega (arith, below (c .before) (omega arith))
 
-add-join-into-2 : tie.Need-add-join-into-2 Inv-loop μ-loop
-add-join-into-2 c = omega (arith, below (c .before) (omega arith))
+add-join-into : tie.Need-add-join-into Inv-loop μ-loop
+add-join-into c = omega (arith, below (c .before) (omega arith))
 
 join-into-requires : tie.Need-join-into-requires Inv-loop μ-loop
 join-into-requires c κs =
@@ -48,7 +51,9 @@ loop-less : tie.Need-loop-less Inv-loop μ-loop
 loop-less c = rest-less (c .before .before .before .before .before .loop .inv .digits) (omega arith)
 
 loop-again : tie.Need-loop-again Inv-loop μ-loop
-loop-again c = taking-on (c .before .before .before .before .before .loop .inv) (omega arith) (c .before .before .join-into .ensures)
+loop-again c =
+    let at = c .before .before .before .before .before in
+    taking-on (at .loop .inv) (omega arith) (omega arith) (c .before .before .join-into .ensures)
 
 same-length : tie.Need-same-length Inv-loop μ-loop
 same-length c = c .before .loop .inv .same-length
@@ -62,11 +67,12 @@ join-ways-spec =
     (tie.spec
     Inv-loop
     μ-loop
+    mul-ways
+    add-ways
     loop-holds
     cast-join-into
-    add-join-into
     mul-join-into
-    add-join-into-2
+    add-join-into
     join-into-requires
     shl-rest
     loop-less

@@ -9,21 +9,15 @@ use Rattle.trimming.proofs.note_implied.Statement.{statement}
 use Rattle.trimming.proofs.note_implied.Tie as tie
 
 abbrev Inv-loop : tie.InvT-loop
-Inv-loop w a implied₀ row i₀ implied i = Noting w implied a i
+Inv-loop w row implied₀ i₀ implied i = Noting w implied row i
 
 abbrev μ-loop : tie.MeasureT-loop
-μ-loop w a implied₀ row i₀ implied i = 8 - i
-
-mul-row : tie.Need-mul-row Inv-loop μ-loop
-mul-row c = omega arith
-
-add-row : tie.Need-add-row Inv-loop μ-loop
-add-row c = omega arith
+μ-loop w row implied₀ i₀ implied i = 8 - i
 
 loop-holds : tie.Need-loop-holds Inv-loop μ-loop
 loop-holds c =
     let s = c .before .before in
-    noting-start (s .args .w .now) (s .args .implied .now) (s .args .a) (s .pre .2)
+    noting-start (s .args .w .now) (s .args .implied .now) (s .args .row) (s .pre .2)
 
 mul-old : tie.Need-mul-old Inv-loop μ-loop
 mul-old c = omega arith
@@ -70,8 +64,6 @@ note-implied-spec =
     (tie.spec
     Inv-loop
     μ-loop
-    mul-row
-    add-row
     loop-holds
     mul-old
     slice-read-old

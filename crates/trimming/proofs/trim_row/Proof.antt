@@ -1,10 +1,17 @@
 -- `trimming::trim_row` meets its contract: what is implied is noted, and the other links are written.
 -- Assumes nothing.
+use mathlib.Core.Path.{refl}
 use native.Mathlib.Omega.{arith}
 use Rattle.trimming.proofs.Rows.{row-stays}
 use borrow.Author.Needs.{needs}
 use Rattle.trimming.proofs.trim_row.Statement.{statement}
 use Rattle.trimming.proofs.trim_row.Tie as tie
+
+mul-row : tie.Need-mul-row
+mul-row c = search needs
+
+add-row : tie.Need-add-row
+add-row c = search needs
 
 slice-aggregate-note-implied : tie.Need-slice-aggregate-note-implied
 slice-aggregate-note-implied c = search needs
@@ -22,8 +29,9 @@ write-row-requires c κs =
     let (g, held, fits) = s .pre .0 in (
       held .long,
       omega (arith, held .few),
+      refl,
       omega arith,
-      rw (row-stays (noted .last .1 .1 .0) held (s .pre .1) (noted .ensures)) fits,
+      rw (row-stays (noted .last .1 .1 .0) held (s .pre .1) (noted .ensures (s .args .a) refl)) fits,
     )
 
 same-length : tie.Need-same-length
@@ -34,12 +42,14 @@ returns c = λ g held.
     let written = c .before .before in
     let noted = written .before .before .before .before .note-implied in
     let s = written .before .before .before .before .before .before .before .before in
-    rw (row-stays (noted .last .1 .1 .0) held (s .pre .1) (noted .ensures)) at (written .write-row .ensures)
+    rw (row-stays (noted .last .1 .1 .0) held (s .pre .1) (noted .ensures (s .args .a) refl)) at (written .write-row .ensures)
 
 pub trim-row-spec : {M : Type 1} → statement M
 trim-row-spec =
     tie.close
     (tie.spec
+    mul-row
+    add-row
     slice-aggregate-note-implied
     note-implied-requires
     slice-aggregate-write-row

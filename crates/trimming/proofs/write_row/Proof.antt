@@ -14,28 +14,22 @@ use Rattle.trimming.proofs.write_row.Statement.{statement}
 use Rattle.trimming.proofs.write_row.Tie as tie
 
 abbrev Inv-loop : tie.InvT-loop
-Inv-loop w a implied out₀ row links₀ i₀ out links i = (i ≤ 8) × Listing (keptAt w a implied) toUnpaused out₀ out 256 links (32 * i)
+Inv-loop w a row implied out₀ links₀ i₀ out links i = (i ≤ 8) × Listing (keptAt w a implied) toUnpaused out₀ out 256 links (32 * i)
 
 abbrev μ-loop : tie.MeasureT-loop
-μ-loop w a implied out₀ row links₀ i₀ out links i = 8 - i
-
-mul-row : tie.Need-mul-row Inv-loop μ-loop
-mul-row c = omega arith
-
-add-row : tie.Need-add-row Inv-loop μ-loop
-add-row c = omega arith
+μ-loop w a row implied out₀ links₀ i₀ out links i = 8 - i
 
 loop-holds : tie.Need-loop-holds Inv-loop μ-loop
 loop-holds c =
     let a = c .before .before .before .args in
-    (omega arith, listing-none (keptAt (a .w .now) (a .a) (a .implied .now)) toUnpaused (a .out .now) 256 (omega (arith, c .before .before .before .pre .3)))
+    (omega arith, listing-none (keptAt (a .w .now) (a .a) (a .implied .now)) toUnpaused (a .out .now) 256 (omega (arith, c .before .before .before .pre .4)))
 
 -- the entry, from the loop, and the room for all links
 abbrev start : tie.At-loop Inv-loop μ-loop → tie.Start Inv-loop μ-loop
 start c = c .before .before .before .before
 
 room : (s : tie.Start Inv-loop μ-loop) → length (keptTo (s .args .w .now) (s .args .a) (s .args .implied .now)) < length (s .args .out .now)
-room s = group-holds (s .args .a) (noPause (s .args .a)) (keptTo (s .args .w .now) (s .args .a) (s .args .implied .now)) (length (s .args .out .now)) (s .pre .3)
+room s = group-holds (s .args .a) (noPause (s .args .a)) (keptTo (s .args .w .now) (s .args .a) (s .args .implied .now)) (length (s .args .out .now)) (s .pre .4)
 
 same-out : (c : tie.At-loop Inv-loop μ-loop) → length (c .loop .out) ≡ length (start c .args .out .now)
 same-out c = c .loop .inv .1 .same-length
@@ -62,7 +56,7 @@ write-word-requires : tie.Need-write-word-requires Inv-loop μ-loop
 write-word-requires c κs =
     let at = c .before .before .before .before in
     let a = start at .args in
-    ((keptAt (a .w .now) (a .a) (a .implied .now), a .out .now, word-tells (a .w .now) (a .a) (a .implied .now) (at .loop .i), at .loop .inv .1, room (start at)), omega arith)
+    ((keptAt (a .w .now) (a .a) (a .implied .now), a .out .now, word-tells (a .w .now) (a .a) (a .row) (a .implied .now) (at .loop .i) (start at .pre .2), at .loop .inv .1, room (start at)), omega arith)
 
 add-i : tie.Need-add-i Inv-loop μ-loop
 add-i c = omega arith
@@ -79,7 +73,7 @@ loop-again c =
     let written = c .before .before .write-word in (
       omega arith,
       subst (λ (v : ℕ). Listing test toUnpaused (a .out .now) (written .last .1 .1 .1 .0) 256 (written .result) v) next
-          (written .ensures test (a .out .now) (word-tells (a .w .now) (a .a) (a .implied .now) (at .loop .i)) (at .loop .inv .1) (room (start at))),
+          (written .ensures test (a .out .now) (word-tells (a .w .now) (a .a) (a .row) (a .implied .now) (at .loop .i) (start at .pre .2)) (at .loop .inv .1) (room (start at))),
     )
 
 -- all words are done
@@ -97,7 +91,7 @@ add-out : tie.Need-add-out Inv-loop μ-loop
 add-out c = omega arith
 
 slice-write-out : tie.Need-slice-write-out Inv-loop μ-loop
-slice-write-out c = omega (arith, same-out (c .before .before), start (c .before .before) .pre .3)
+slice-write-out c = omega (arith, same-out (c .before .before), start (c .before .before) .pre .4)
 
 same-length : tie.Need-same-length Inv-loop μ-loop
 same-length c = simp length-set (same-out (c .before .before))
@@ -117,7 +111,7 @@ returns-2 c =
     let at = c .before .before in
     let a = start at .args in
     group-no-links (keptAt (a .w .now) (a .a) (a .implied .now)) (noPause (a .a)) (a .out .now) (at .loop .out) 256 (at .loop .links) 256 (whole at (omega arith))
-    (omega arith) (a .a) (omega arith) (omega (arith, start at .pre .3))
+    (omega arith) (a .a) (omega arith) (omega (arith, start at .pre .4))
 
 pub write-row-spec : {M : Type 1} → statement M
 write-row-spec =
@@ -125,8 +119,6 @@ write-row-spec =
     (tie.spec
     Inv-loop
     μ-loop
-    mul-row
-    add-row
     loop-holds
     mul-old
     shared-slice-read-old
