@@ -7,7 +7,7 @@ use native.Mathlib.Decide.{ℕ-discrete, decLt}
 use native.Mathlib.Omega.{arith}
 use lib.ListN.{length, getD, set, take, drop, replicate, length-set, length-append, length-drop, length-replicate, getD-replicate, List·getD-append}
 use lib.Seq.{length-take-le, getD-append-add, getD-set-other, getD-take, getD-drop}
-use Rattle.bits.specs.Bits.{bit, BitSet, RowJoined}
+use Rattle.bits.specs.Bits.{bit, BitSet, RowJoined, RowGained}
 use Rattle.bits.specs.Work.{matrixWords, Matrix, Outside}
 use Rattle.bits.proofs.Rows.{bit-word, bits-words}
 
@@ -69,6 +69,9 @@ set-outside row b hb s =
 
 pub joined-outside : {w w′ : List ℕ} {base a k : ℕ} → RowJoined w w′ base a k → Outside (base + 8 * a) (base + 8 * a + 8) w w′
 joined-outside j = record { same-length = j .same-length; before = j .before; behind = j .behind }
+
+pub gained-outside : {v w w′ : List ℕ} {row : ℕ} → RowGained v w w′ row → Outside row (row + 8) w w′
+gained-outside j = record { same-length = j .same-length; before = j .before; behind = j .behind }
 
 -- leaves the bits of the others
 pub row-other : {w w′ : List ℕ} (base a : ℕ) → Outside (base + 8 * a) (base + 8 * a + 8) w w′ → (x y : ℕ) → y < 256 → x ≢ a

@@ -11,7 +11,7 @@ use lib.Seq.{getD-set-same, getD-set-other}
 use lib.Pow.{pow-mono}
 use lib.Bits.{bitOr, bitXor, differ, or-lt, xor-lt}
 use lib.Count.{trailingZeros}
-use Rattle.bits.specs.Bits.{digit, bit, BitSet, RowJoined, RowAdded, RowCopied, FirstBit, NextNew}
+use Rattle.bits.specs.Bits.{digit, bit, BitSet, RowJoined, RowAdded, RowGained, RowCopied, FirstBit, NextNew}
 use Rattle.bits.proofs.Digits.{mask, digit-lt, digit-or, digit-xor, digit-shr, digit-one, digit-other, digit-trailing, digit-below, digit-none}
 
 pub bit-lt : (w : List ℕ) (row b : ℕ) → bit w row b < 2
@@ -128,13 +128,22 @@ pub row-joined : (w w′ : List ℕ) (base a k i : ℕ) → i ≡ 8 → Joining 
 row-joined w w′ base a k i e s =
     record { same-length = s .same-length; before = s .before; behind = λ j h. s .behind j (omega arith); joined = joined-bit s e }
 
--- a row by itself starts at word 0
+-- a row by itself starts at word 0, whether it is joined into
 module _ {w v v′ : List ℕ} {row i : ℕ} (s : Joining w v v′ 0 row i) where
   pub adding-more : i < length v → Joining w v (set v′ i (bitOr (getD v′ i 0) (getD w (row + i) 0))) 0 row (i + 1)
   adding-more fits = let e : 0 + i ≡ i = omega arith in rw e at (joining-more s (getD w (row + i) 0) refl (omega arith))
 
   pub row-added : i ≡ 8 → RowAdded w row v v′
   row-added e = record { same-length = s .same-length; joined = joined-bit s e }
+
+-- or from
+module _ {v w w′ : List ℕ} {row i : ℕ} (s : Joining v w w′ row 0 i) where
+  pub gaining-more : row + i < length w → Joining v w (set w′ (row + i) (bitOr (getD w′ (row + i) 0) (getD v i 0))) row 0 (i + 1)
+  gaining-more fits = let e : 0 + i ≡ i = omega arith in joining-more s (getD v i 0) (rw e refl) fits
+
+  pub row-gained : i ≡ 8 → RowGained v w w′ row
+  row-gained e =
+      record { same-length = s .same-length; before = s .before; behind = λ j h. s .behind j (omega arith); joined = joined-bit s e }
 
 -- ---- the first bit
 

@@ -32,6 +32,13 @@ pub record RowAdded (w : List ℕ) (row : ℕ) (v v′ : List ℕ) : Type 0 wher
   pub same-length : length v′ ≡ length v
   pub joined : (b : ℕ) → b < 256 → bit v′ 0 b ≡ max (bit v 0 b) (bit w row b)
 
+-- `w′` is `w` with the row of bits `v` joined into the row that starts at word `row`
+pub record RowGained (v w w′ : List ℕ) (row : ℕ) : Type 0 where
+  pub same-length : length w′ ≡ length w
+  pub before : (i : ℕ) → i < row → getD w′ i 0 ≡ getD w i 0
+  pub behind : (i : ℕ) → row + 8 ≤ i → getD w′ i 0 ≡ getD w i 0
+  pub joined : (b : ℕ) → b < 256 → bit w′ row b ≡ max (bit w row b) (bit v 0 b)
+
 -- `r` is the first bit of the row at `row`, or 256
 pub record FirstBit (w : List ℕ) (row r : ℕ) : Type 0 where
   pub at-most : r ≤ 256

@@ -2,7 +2,7 @@
 ghost use mathlib.Core.Path.{_≡_};
 ghost use Prim.Native.Nat.{_+_, _-_, _*_, _/_, _<_, _≤_};
 ghost use lib.ListN.{length, getD, replicate};
-ghost use Rattle.bits.specs.Bits.{digit, bit, BitSet, RowJoined, RowAdded, RowCopied, FirstBit, NextNew};
+ghost use Rattle.bits.specs.Bits.{digit, bit, BitSet, RowJoined, RowAdded, RowGained, RowCopied, FirstBit, NextNew};
 
 // The regions of the work words: the links and the ways, each a row of bits for each episode; the tables of the search, 256 words each;
 // the bits of what it has seen, of what earlier searches have seen in vain, and bits of which none is set.
@@ -73,6 +73,18 @@ pub fn join_into(w: &[u32], row: usize, v: &mut [u32])
     let mut i = 0;
     while i < 8 {
         v[i] = v[i] | w[row + i];
+        i += 1;
+    }
+}
+
+// Joins the row `v` into the row that starts at word `row` of `w`.
+pub fn join_from(v: &[u32], w: &mut [u32], row: usize)
+    requires { ⌜ (length (now v) ≡ 8) × (row + 8 ≤ length (now w)) ⌝ }
+    ensures { λ _. ⌜ RowGained (now (v .entry)) (now (w .entry)) (now (w .exit)) row ⌝ }
+{
+    let mut i = 0;
+    while i < 8 {
+        w[row + i] = w[row + i] | v[i];
         i += 1;
     }
 }

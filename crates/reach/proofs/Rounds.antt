@@ -1,30 +1,33 @@
 -- Warshall's closure: one row, one round, all rounds.
-use mathlib.Core.Path.{_≡_, refl, sym, subst}
+use mathlib.Core.Path.{_≡_, refl, sym, _∙_, subst}
 use mathlib.Core.Logic.{_⊎_, ⊎-elim, inl, inr}
 use mathlib.Core.List.{List}
-use Prim.Native.Nat.{ℕ, suc, _+_, _*_, _≤_, _<_}
+use Prim.Native.Nat.{ℕ, suc, _+_, _*_, _/_, _≤_, _<_}
 use native.Mathlib.Decide.{ℕ-discrete}
 use native.Mathlib.Numerals.{add-one}
 use native.Mathlib.Omega.{arith}
+use lib.ListN.{replicate, getD-replicate}
 use Rattle.paths.specs.Graph.{Graph, EndsBelow, Link}
 use Rattle.paths.specs.Closure.{WayBelow}
 use Rattle.paths.proofs.Ways.{below-way, way-below, way-first}
-use Rattle.bits.specs.Bits.{bit, RowJoined}
+use Rattle.bits.specs.Bits.{bit, RowAdded, RowGained}
 use Rattle.bits.specs.Work.{waysAt, Matrix, Outside, nextAt}
-use Rattle.bits.proofs.Rows.{bit-lt}
-use Rattle.reach.specs.Reach.{RowClosed, RoundClosed, Closed}
-use Rattle.bits.proofs.Frames.{outside-none, outside-then, outside-wider, joined-outside, row-other}
+use Rattle.bits.proofs.Rows.{bit-lt, bits-zero}
+use Rattle.reach.specs.Reach.{HoldsWays, RowClosed, RoundClosed, Closed}
+use Rattle.bits.proofs.Frames.{outside-none, outside-then, outside-wider, gained-outside, row-other}
 
--- row `k` was joined into row `a`, where `a` has `k`
-pub row-joined-closed : (w w′ : List ℕ) (a k : ℕ) → a < 256 → k < 256 → bit w (waysAt + 8 * a) k ≡ 1 → RowJoined w w′ waysAt a k → RowClosed w w′ a k
-row-joined-closed w w′ a k ha hk o j =
+-- the ways of `k` were joined into row `a`, where `a` has `k`
+pub row-joined-closed : (w w′ v : List ℕ) (a k : ℕ) → a < 256 → HoldsWays w k v → bit w (waysAt + 8 * a) k ≡ 1 → RowGained v w w′ (waysAt + 8 * a)
+    → RowClosed w w′ a k
+row-joined-closed w w′ v a k ha held o j =
     record {
-      outside = outside-wider (omega arith) (omega arith) (joined-outside j);
+      outside = outside-wider (omega arith) (omega arith) (gained-outside j);
       here = λ y hy.
           let e = j .joined y hy in
+          let same : bit v 0 y ≡ bit w (waysAt + 8 * k) y = held y hy in
           let l : bit w (waysAt + 8 * k) y < 2 = bit-lt w (waysAt + 8 * k) y in
           omega arith;
-      other = λ x y hx hy ne. row-other waysAt a (joined-outside j) x y hy ne;
+      other = λ x y hx hy ne. row-other waysAt a (gained-outside j) x y hy ne;
     }
 
 -- and left alone, where it has not
@@ -38,6 +41,14 @@ row-left-closed w a k z =
           omega arith;
       other = λ x y hx hy ne. refl;
     }
+
+-- row `k` itself stays as it is
+ways-kept : (v : List ℕ) {w w′ : List ℕ} {a k : ℕ} → k < 256 → RowClosed w w′ a k → HoldsWays w k v → HoldsWays w′ k v
+ways-kept v {w} {w′} {a} {k} hk c held b hb = held b hb ∙ sym (same (ℕ-discrete k a))
+  where
+    same : Dec (k ≡ a) → bit w′ (waysAt + 8 * k) b ≡ bit w (waysAt + 8 * k) b
+    same (no ne) = c .other k b hk hb ne
+    same (yes e) = rw e (omega (arith, rw e at (c .here b hb)))
 
 -- the pairs of `R`, and of rows below `a` those by way of `k`
 abbrev pub By : (ℕ → ℕ → Type 0) → ℕ → ℕ → ℕ → ℕ → Type 0
@@ -90,17 +101,21 @@ module _ {R : ℕ → ℕ → Type 0} {w w′ : List ℕ} {a k : ℕ} (hk : k < 
       complete x y hx hy r (no ne) = rw (c .other x y hx hy ne) (m .complete x y hx hy (⊎-elim inl (λ q. inr (omega arith, q .1, q .2)) r))
       complete x y hx hy r (yes e) = rw e (complete-a y hy (rw e at r))
 
--- After the rows below `a` of round `k`.
-pub record InRound (w w′ : List ℕ) (n k a : ℕ) : Type 0 where
+-- After the rows below `a` of round `k`, where `v` has the ways of `k`.
+pub record InRound (w w′ v : List ℕ) (n k a : ℕ) : Type 0 where
   pub outside : Outside waysAt nextAt w w′
   pub at-most : a ≤ n
+  pub held : HoldsWays w′ k v
   pub ways : (g : Graph) → Matrix waysAt w (WayBelow g k) → Matrix waysAt w′ (By (WayBelow g k) k a)
 
-pub round-start : (w : List ℕ) (n k : ℕ) → InRound w w n k 0
-round-start w n k =
+pub round-start : (w v₀ v : List ℕ) (n k : ℕ) → v₀ ≡ replicate 8 0 → RowAdded w (waysAt + 8 * k) v₀ v → InRound w w v n k 0
+round-start w v₀ v n k e q =
     record {
       outside = outside-none waysAt nextAt w;
       at-most = omega arith;
+      held = λ b hb.
+          let z = bits-zero v₀ 0 b (rw e (getD-replicate 8 (0 + b / 32) 0 0 (omega arith))) in
+          omega (arith, q .joined b hb);
       ways = λ g m.
           record {
             sound = λ x y hx hy o. inl (m .sound x y hx hy o);
@@ -108,17 +123,19 @@ round-start w n k =
           };
     }
 
-pub round-row : (w w′ w″ : List ℕ) (n k a : ℕ) → k < 256 → a < n → n ≤ 256 → InRound w w′ n k a → RowClosed w′ w″ a k → InRound w w″ n k (a + 1)
-round-row w w′ w″ n k a hk ha few s c =
+pub round-row : (w w′ w″ v : List ℕ) (n k a : ℕ) → k < 256 → a < n → n ≤ 256 → InRound w w′ v n k a → RowClosed w′ w″ a k
+    → InRound w w″ v n k (a + 1)
+round-row w w′ w″ v n k a hk ha few s c =
     record {
       outside = outside-then (s .outside) (c .outside);
       at-most = omega arith;
+      held = ways-kept v hk c (s .held);
       ways = λ g m. row-by hk (omega arith) (s .ways g m) c;
     }
 
-pub round-end : (w w′ : List ℕ) (n k a : ℕ) → n ≤ a → InRound w w′ n k a → RoundClosed w w′ n k
+pub round-end : (w w′ v : List ℕ) (n k a : ℕ) → n ≤ a → InRound w w′ v n k a → RoundClosed w w′ n k
 unfolding WayBelow
-round-end w w′ n k a h s =
+round-end w w′ v n k a h s =
     record {
       outside = s .outside;
       ways = λ g ends e m.

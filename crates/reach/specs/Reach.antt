@@ -40,6 +40,10 @@ pub record LinksCopied (w w′ : List ℕ) : Type 0 where
   pub outside : Outside waysAt nextAt w w′
   pub words : (i : ℕ) → i < matrixWords → getD w′ (waysAt + i) 0 ≡ getD w (linksAt + i) 0
 
+-- the row of bits `v` has the ways of `k`
+abbrev pub HoldsWays : List ℕ → ℕ → List ℕ → Type 0
+HoldsWays w k v = (b : ℕ) → b < 256 → bit v 0 b ≡ bit w (waysAt + 8 * k) b
+
 -- row `a` of the ways has the ways of `k` besides, where it has `k`
 pub record RowClosed (w w′ : List ℕ) (a k : ℕ) : Type 0 where
   pub outside : Outside waysAt nextAt w w′

@@ -7,7 +7,7 @@ ghost use Rattle.log.specs.Log.{toBeforeLast, graphOf, PassedLog};
 ghost use Rattle.log.specs.Groups.{nearestFrom};
 ghost use Rattle.bits.specs.Work.{linksAt, nextAt};
 ghost use Rattle.rising.specs.Rising.{NoWays};
-ghost use Rattle.reach.specs.Reach.{NoneMarked, GroupMarked, LinksMarked, LinksCopied, RowClosed, RoundClosed, Closed, WaysReached};
+ghost use Rattle.reach.specs.Reach.{NoneMarked, GroupMarked, LinksMarked, LinksCopied, HoldsWays, RowClosed, RoundClosed, Closed, WaysReached};
 ghost use Rattle.reach.specs.Reach.{ReachedLog, FirstLoop};
 use bits::LINKS;
 use bits::WAYS;
@@ -55,24 +55,27 @@ fn copy_links(w: &mut [u32])
     }
 }
 
-// Where `a` has a way to `k`, gives it the ways of `k`.
-fn close_row(w: &mut [u32], a: usize, k: usize)
-    requires { ⌜ (nextAt ≤ length (now w)) × (a < 256) × (k < 256) ⌝ }
+// Where `a` has a way to `k`, gives it the ways of `k`, which are `ways`.
+fn close_row(w: &mut [u32], a: usize, k: usize, ways: &[u32])
+    requires { ⌜ (nextAt ≤ length (now w)) × (a < 256) × (k < 256) × (length (now ways) ≡ 8) × HoldsWays (now w) k (now ways) ⌝ }
     ensures { λ _. ⌜ RowClosed (now (w .entry)) (now (w .exit)) a k ⌝ }
 {
-    if bits::bit_at(w, WAYS + 8 * a, k) == 1 {
-        bits::join_row(w, WAYS, a, k);
+    let row = WAYS + 8 * a;
+    if bits::bit_at(w, row, k) == 1 {
+        bits::join_from(ways, w, row);
     }
 }
 
-// One round of Warshall's closure: ways by way of `k`.
+// One round of Warshall's closure: ways by way of `k`, whose ways are the same throughout.
 fn close_round(w: &mut [u32], n: usize, k: usize)
     requires { ⌜ (nextAt ≤ length (now w)) × (n ≤ 256) × (k < n) ⌝ }
     ensures { λ _. ⌜ RoundClosed (now (w .entry)) (now (w .exit)) n k ⌝ }
 {
+    let mut ways = [0u32; 8];
+    bits::join_into(w, WAYS + 8 * k, &mut ways);
     let mut a = 0;
     while a < n {
-        close_row(w, a, k);
+        close_row(w, a, k, &ways);
         a += 1;
     }
 }
