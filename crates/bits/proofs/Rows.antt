@@ -115,18 +115,12 @@ module _ {w v v′ : List ℕ} {to from i : ℕ} (s : Joining w v v′ to from i
   unfolding bit
   joined-bit e b l = ap (λ (x : ℕ). digit x (b % 32)) (s .done (b / 32) (omega arith)) ∙ digit-or _ _ (b % 32)
 
--- the rows may stand in one matrix: what is still to be joined is as it was
-module _ {w w′ : List ℕ} (base a k : ℕ) {i : ℕ} (h : i < 8) (s : Joining w w w′ (base + 8 * a) (base + 8 * k) i) where
-  pub row-unread : getD w′ (base + 8 * k + i) 0 ≡ getD w (base + 8 * k + i) 0
-  row-unread = go (decLt (base + 8 * k + i) (base + 8 * a))
-    where
-      go : Dec (base + 8 * k + i < base + 8 * a) → getD w′ (base + 8 * k + i) 0 ≡ getD w (base + 8 * k + i) 0
-      go (yes l) = s .before (base + 8 * k + i) l
-      go (no l) = s .behind (base + 8 * k + i) (omega arith)
-
-pub row-joined : (w w′ : List ℕ) (base a k i : ℕ) → i ≡ 8 → Joining w w w′ (base + 8 * a) (base + 8 * k) i → RowJoined w w′ base a k
-row-joined w w′ base a k i e s =
-    record { same-length = s .same-length; before = s .before; behind = λ j h. s .behind j (omega arith); joined = joined-bit s e }
+-- both rows in one matrix
+pub row-joined : {w w′ : List ℕ} {to from i : ℕ} → Joining w w w′ to from i → i ≡ 8 → (base a k : ℕ) → to ≡ base + 8 * a → from ≡ base + 8 * k
+    → RowJoined w w′ base a k
+row-joined {w} {w′} {i = i} s e base a k p q =
+    let r : Joining w w w′ (base + 8 * a) (base + 8 * k) i = rw (p, q) at s in
+    record { same-length = r .same-length; before = r .before; behind = λ j h. r .behind j (omega arith); joined = joined-bit r e }
 
 -- a row by itself starts at word 0, whether it is joined into
 module _ {w v v′ : List ℕ} {row i : ℕ} (s : Joining w v v′ 0 row i) where

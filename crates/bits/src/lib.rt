@@ -1,6 +1,6 @@
 // Rows of bits in lent words: 8 words, 256 bits, to a row.
 ghost use mathlib.Core.Path.{_≡_};
-ghost use Prim.Native.Nat.{_+_, _-_, _*_, _/_, _<_, _≤_};
+ghost use Prim.Native.Nat.{ℕ, _+_, _-_, _*_, _/_, _<_, _≤_};
 ghost use lib.ListN.{length, getD, replicate};
 ghost use Rattle.bits.specs.Bits.{digit, bit, BitSet, RowJoined, RowAdded, RowGained, RowCopied, FirstBit, NextNew};
 
@@ -51,13 +51,11 @@ pub fn set_bit(w: &mut [u32], row: usize, b: usize)
     w[at] = w[at] | (1 << (b % 32));
 }
 
-// Joins row `k` of the matrix at `base` into row `a`.
-pub fn join_row(w: &mut [u32], base: usize, a: usize, k: usize)
-    requires { ⌜ (base + 8 * a + 8 ≤ length (now w)) × (base + 8 * k + 8 ≤ length (now w)) ⌝ }
-    ensures { λ _. ⌜ RowJoined (now (w .entry)) (now (w .exit)) base a k ⌝ }
+// Joins the row that starts at word `from` into the one that starts at word `to`, which is not behind it.
+pub fn join_row(w: &mut [u32], to: usize, from: usize)
+    requires { ⌜ (to ≤ from) × (from + 8 ≤ length (now w)) ⌝ }
+    ensures { λ _. ⌜ ((base a k : ℕ) → to ≡ base + 8 * a → from ≡ base + 8 * k → RowJoined (now (w .entry)) (now (w .exit)) base a k) ⌝ }
 {
-    let to = base + 8 * a;
-    let from = base + 8 * k;
     let mut i = 0;
     while i < 8 {
         w[to + i] = w[to + i] | w[from + i];

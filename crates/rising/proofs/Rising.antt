@@ -80,53 +80,48 @@ reaching-end rise h r c hc (step {a = a} {b = d} l w) =
 
 -- ---- links to episodes without links
 
--- The first `i` words of row `a` of the ways are those of its links, without those of `linked`.
-pub record Taking (w w′ : List ℕ) (a : ℕ) (linked : List ℕ) (i : ℕ) : Type 0 where
-  pub outside : Outside (waysAt + 8 * a) (waysAt + 8 * a + 8) w w′
+-- The first `i` words of the row at `ways` are those of the row at `links`, without those of `linked`.
+pub record Taking (w w′ : List ℕ) (links ways : ℕ) (linked : List ℕ) (i : ℕ) : Type 0 where
+  pub outside : Outside ways (ways + 8) w w′
   pub at-most : i ≤ 8
-  pub words : (j : ℕ) → j < i → getD w′ (waysAt + 8 * a + j) 0 ≡ fresh (getD w (linksAt + 8 * a + j) 0) (getD linked j 0)
+  pub words : (j : ℕ) → j < i → getD w′ (ways + j) 0 ≡ fresh (getD w (links + j) 0) (getD linked j 0)
 
-pub taking-start : (w : List ℕ) (a : ℕ) (linked : List ℕ) → Taking w w a linked 0
-taking-start w a linked =
-    record {
-      outside = outside-none (waysAt + 8 * a) (waysAt + 8 * a + 8) w;
-      at-most = omega arith;
-      words = λ j h. absurd (omega arith);
-    }
+pub taking-start : (w : List ℕ) (links ways : ℕ) (linked : List ℕ) → Taking w w links ways linked 0
+taking-start w links ways linked =
+    record { outside = outside-none ways (ways + 8) w; at-most = omega arith; words = λ j h. absurd (omega arith) }
 
-module _ (w w′ : List ℕ) (a : ℕ) (linked : List ℕ) (i : ℕ) (s : Taking w w′ a linked i) where
+module _ {w w′ : List ℕ} {links ways : ℕ} {linked : List ℕ} {i : ℕ} (s : Taking w w′ links ways linked i) where
   abbrev taken : ℕ
-  taken = fresh (getD w′ (linksAt + 8 * a + i) 0) (getD linked i 0)
+  taken = fresh (getD w′ (links + i) 0) (getD linked i 0)
 
-  pub taking-on : a < 256 → i < 8 → nextAt ≤ length w → Taking w (set w′ (waysAt + 8 * a + i) taken) a linked (i + 1)
-  taking-on ha hi fits =
+  pub taking-on : links + 8 ≤ ways → ways + 8 ≤ length w → i < 8 → Taking w (set w′ (ways + i) taken) links ways linked (i + 1)
+  taking-on apart fits hi =
       record {
-        outside = outside-more (waysAt + 8 * a + i) taken (omega arith) (omega arith) (s .outside);
+        outside = outside-more (ways + i) taken (omega arith) (omega arith) (s .outside);
         at-most = omega arith;
         words = λ j h. words j h (ℕ-discrete j i);
       }
     where
-      words : (j : ℕ) → j < i + 1 → Dec (j ≡ i)
-          → getD (set w′ (waysAt + 8 * a + i) taken) (waysAt + 8 * a + j) 0 ≡ fresh (getD w (linksAt + 8 * a + j) 0) (getD linked j 0)
+      words : (j : ℕ) → j < i + 1 → Dec (j ≡ i) → getD (set w′ (ways + i) taken) (ways + j) 0 ≡ fresh (getD w (links + j) 0) (getD linked j 0)
       words j h (yes e) =
-          let same : getD w′ (linksAt + 8 * a + i) 0 ≡ getD w (linksAt + 8 * a + i) 0 = s .outside .before (linksAt + 8 * a + i) (omega arith) in
-          rw e (getD-set-same w′ (waysAt + 8 * a + i) taken 0 (omega (arith, s .outside .same-length)) ∙ rw same refl)
-      words j h (no ne) =
-          getD-set-other w′ (waysAt + 8 * a + i) (waysAt + 8 * a + j) taken 0 (λ e. ne (omega arith)) ∙ s .words j (omega (arith, ne))
+          let same : getD w′ (links + i) 0 ≡ getD w (links + i) 0 = s .outside .before (links + i) (omega arith) in
+          rw e (getD-set-same w′ (ways + i) taken 0 (omega (arith, s .outside .same-length)) ∙ rw same refl)
+      words j h (no ne) = getD-set-other w′ (ways + i) (ways + j) taken 0 (λ e. ne (omega arith)) ∙ s .words j (omega (arith, ne))
 
-pub taking-end : (w w′ : List ℕ) (a : ℕ) (linked : List ℕ) (i : ℕ) → 8 ≤ i → Taking w w′ a linked i → EndsTaken w w′ a linked
-taking-end w w′ a linked i h s =
-    record {
-      outside = s .outside;
-      sound = λ c hc o. fresh-one _ _ (bit-lt w (linksAt + 8 * a) c) (bit-lt linked 0 c) (sym (bits c hc) ∙ o);
-      complete = λ c hc o z. bits c hc ∙ rw (o, z) refl;
-    }
-  where
-    bits : (c : ℕ) → c < 256
-        → bit w′ (waysAt + 8 * a) c ≡ differ (max (bit w (linksAt + 8 * a) c) (bit linked 0 c)) (bit linked 0 c)
-    bits c hc =
-        let e : 0 + c / 32 ≡ c / 32 = omega arith in
-        bit-fresh w linked w′ (linksAt + 8 * a) 0 (waysAt + 8 * a) c (rw e (s .words (c / 32) (omega arith)))
+  -- the rows of `a`
+  pub taking-end : 8 ≤ i → (a : ℕ) → links ≡ linksAt + 8 * a → ways ≡ waysAt + 8 * a → EndsTaken w w′ a linked
+  taking-end h a p q =
+      record {
+        outside = rw q at (s .outside);
+        sound = λ c hc o. fresh-one _ _ (bit-lt w (linksAt + 8 * a) c) (bit-lt linked 0 c) (sym (bits c hc) ∙ o);
+        complete = λ c hc o z. bits c hc ∙ rw (o, z) refl;
+      }
+    where
+      bits : (c : ℕ) → c < 256
+          → bit w′ (waysAt + 8 * a) c ≡ differ (max (bit w (linksAt + 8 * a) c) (bit linked 0 c)) (bit linked 0 c)
+      bits c hc =
+          let e : 0 + c / 32 ≡ c / 32 = omega arith in
+          rw (p, q) at (bit-fresh w linked w′ links 0 ways c (rw e (s .words (c / 32) (omega arith))))
 
 -- ---- the ways from one episode, in words
 
@@ -135,9 +130,10 @@ pub record Above (g : Graph) (w : List ℕ) (a : ℕ) : Type 0 where
   pub sound : (x y : ℕ) → a < x → x < 256 → y < 256 → bit w (waysAt + 8 * x) y ≡ 1 → Way g x y
   pub complete : (x y : ℕ) → a < x → x < 256 → y < 256 → Way g x y → bit w (waysAt + 8 * x) y ≡ 1
 
--- After the links of `a` below `b`, and `b` is its next link, or 256.
+-- After the links of `a` below `b`, and `b` is its next link, above `a`, or 256.
 pub record InRow (w w′ : List ℕ) (a b : ℕ) : Type 0 where
   pub outside : Outside (waysAt + 8 * a) (waysAt + 8 * a + 8) w w′
+  pub at-least : a < b
   pub at-most : b ≤ 256
   pub next : b < 256 → bit w (linksAt + 8 * a) b ≡ 1
   pub ways : (g : Graph) → LinksRise g → Matrix linksAt w (Link g) → Above g w a → Reaching g (λ c. bit w (waysAt + 8 * a) c ≡ 1) a 0
@@ -147,6 +143,7 @@ pub row-start : (w : List ℕ) (a b : ℕ) → a < 256 → NextNew w (linksAt + 
 row-start w a b ha n =
     record {
       outside = outside-none (waysAt + 8 * a) (waysAt + 8 * a + 8) w;
+      at-least = omega (arith, n .at-least);
       at-most = n .at-most;
       next = λ h. n .new h .0;
       ways = λ g rise l m r.
@@ -212,6 +209,7 @@ module _ {w w′ v u : List ℕ} {a b b′ : ℕ} (ha : a < 256) (hb : b < 256) 
   row-on =
       record {
         outside = all-still;
+        at-least = omega (arith, n .at-least);
         at-most = n .at-most;
         next = λ h. rw (links-still b′ h) at (n .new h .0);
         ways = λ g rise l m r.

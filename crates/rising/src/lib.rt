@@ -1,8 +1,8 @@
 // The ways of links that rise: from the last episode to the first.
 ghost use mathlib.Core.Path.{_≡_};
-ghost use Prim.Native.Nat.{_<_, _≤_};
+ghost use Prim.Native.Nat.{ℕ, _+_, _*_, _<_, _≤_};
 ghost use lib.ListN.{length};
-ghost use Rattle.bits.specs.Work.{nextAt};
+ghost use Rattle.bits.specs.Work.{linksAt, waysAt, nextAt};
 ghost use Rattle.rising.specs.Rising.{NoWays, RiseTest, EndsTaken, RowReached, LinkNoted, RisingReached};
 use bits::LINKS;
 use bits::WAYS;
@@ -22,13 +22,12 @@ pub fn rises(w: &[u32], n: usize) -> bool
     true
 }
 
-// Gives row `a` of the ways its links to episodes that are not in `linked`.
-fn take_ends(w: &mut [u32], a: usize, linked: &[u32])
-    requires { ⌜ (nextAt ≤ length (now w)) × (a < 256) × (length (now linked) ≡ 8) ⌝ }
-    ensures { λ _. ⌜ EndsTaken (now (w .entry)) (now (w .exit)) a (now (linked .entry)) ⌝ }
+// Gives the ways of an episode, which start at word `ways`, its links to episodes that are not in `linked`; its links start at word `links`.
+fn take_ends(w: &mut [u32], links: usize, ways: usize, linked: &[u32])
+    requires { ⌜ (links + 8 ≤ ways) × (ways + 8 ≤ length (now w)) × (length (now linked) ≡ 8) ⌝ }
+    ensures { λ _. ⌜ ((a : ℕ) → links ≡ linksAt + 8 * a → ways ≡ waysAt + 8 * a
+        → EndsTaken (now (w .entry)) (now (w .exit)) a (now (linked .entry))) ⌝ }
 {
-    let links = LINKS + 8 * a;
-    let ways = WAYS + 8 * a;
     let mut i = 0;
     while i < 8 {
         let old = linked[i];
@@ -43,13 +42,13 @@ fn reach_row(w: &mut [u32], a: usize, linked: &[u32])
     requires { ⌜ (nextAt ≤ length (now w)) × (a < 256) × (length (now linked) ≡ 8) ⌝ }
     ensures { λ _. ⌜ RowReached (now (w .entry)) (now (w .exit)) a (now (linked .entry)) ⌝ }
 {
-    take_ends(w, a, linked);
     let links = LINKS + 8 * a;
     let ways = WAYS + 8 * a;
+    take_ends(w, links, ways, linked);
     let mut b = bits::next_new(w, links, ways, a + 1);
     while b < 256 {
         bits::set_bit(w, ways, b);
-        bits::join_row(w, WAYS, a, b);
+        bits::join_row(w, ways, WAYS + 8 * b);
         b = bits::next_new(w, links, ways, b + 1);
     }
 }

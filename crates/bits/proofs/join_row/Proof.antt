@@ -1,31 +1,20 @@
--- `bits::join_row` meets its contract. The invariant: the first `i` words are joined, and the others as they were.
+-- `bits::join_row` meets its contract. The invariant: the first `i` words are joined, and the others as they were. The
+-- words still to be read are among these.
 -- Assumes nothing.
-use Prim.Native.Nat.{_+_, _*_, _-_, _≤_}
+use Prim.Native.Nat.{_-_, _≤_}
 use native.Mathlib.Omega.{arith}
-use Rattle.bits.proofs.Rows.{Joining, joining-more, row-unread, row-joined}
+use Rattle.bits.proofs.Rows.{Joining, joining-none, joining-more, row-joined}
 use Rattle.bits.proofs.join_row.Statement.{statement}
 use Rattle.bits.proofs.join_row.Tie as tie
 
 abbrev Inv-loop : tie.InvT-loop
-Inv-loop w₀ base a k to from i₀ w i = (i ≤ 8) × Joining w₀ w₀ w (base + 8 * a) (base + 8 * k) i
+Inv-loop w₀ to from i₀ w i = (i ≤ 8) × Joining w₀ w₀ w to from i
 
 abbrev μ-loop : tie.MeasureT-loop
-μ-loop w₀ base a k to from i₀ w i = 8 - i
-
-mul-to : tie.Need-mul-to Inv-loop μ-loop
-mul-to c = omega arith
-
-add-to : tie.Need-add-to Inv-loop μ-loop
-add-to c = omega arith
-
-mul-from : tie.Need-mul-from Inv-loop μ-loop
-mul-from c = omega arith
-
-add-from : tie.Need-add-from Inv-loop μ-loop
-add-from c = omega arith
+μ-loop w₀ to from i₀ w i = 8 - i
 
 loop-holds : tie.Need-loop-holds Inv-loop μ-loop
-loop-holds c = omega arith
+loop-holds c = (omega arith, joining-none (c .args .w .now) (c .args .w .now) (c .args .to) (c .args .from))
 
 add-w : tie.Need-add-w Inv-loop μ-loop
 add-w c = omega arith
@@ -62,18 +51,14 @@ loop-less c = omega arith
 
 loop-again : tie.Need-loop-again Inv-loop μ-loop
 loop-again c =
-    let a = c .before .before .before .before .args in
     let at = c .before .before .before .loop in
-    (omega arith, joining-more (at .inv .1) _ (row-unread (a .base) (a .a) (a .k) (omega arith) (at .inv .1)) (omega arith))
+    (omega arith, joining-more (at .inv .1) _ (at .inv .1 .behind _ (omega arith)) (omega arith))
 
 same-length : tie.Need-same-length Inv-loop μ-loop
 same-length c = omega arith
 
 returns : tie.Need-returns Inv-loop μ-loop
-returns c =
-    let a = c .before .before .args in
-    let at = c .before .loop in
-    row-joined (a .w .now) (at .w) (a .base) (a .a) (a .k) (at .i) (omega arith) (at .inv .1)
+returns c = let at = c .before .loop in row-joined (at .inv .1) (omega arith)
 
 pub join-row-spec : {M : Type 1} → statement M
 join-row-spec =
@@ -81,10 +66,6 @@ join-row-spec =
     (tie.spec
     Inv-loop
     μ-loop
-    mul-to
-    add-to
-    mul-from
-    add-from
     loop-holds
     add-w
     mul-w

@@ -1,7 +1,9 @@
--- `rising::reach_row` meets its contract. The invariant: row `a` has its links below `b` and the ways from there, and `b` is the next link.
+-- `rising::reach_row` meets its contract. The invariant: row `a` has its links below `b`, and the ways from there; `b`, above `a`, is the next link.
 -- Assumes nothing.
+use mathlib.Core.Path.{refl}
 use Prim.Native.Nat.{_-_}
 use native.Mathlib.Omega.{arith}
+use Rattle.bits.specs.Work.{waysAt}
 use Rattle.rising.proofs.Rising.{InRow, row-start, row-on, row-end}
 use Rattle.rising.proofs.reach_row.Statement.{statement}
 use Rattle.rising.proofs.reach_row.Tie as tie
@@ -11,9 +13,6 @@ Inv-loop w₀ a linked links ways b₀ w b = InRow w₀ w a b
 
 abbrev μ-loop : tie.MeasureT-loop
 μ-loop w₀ a linked links ways b₀ w b = 256 - b
-
-take-ends-requires : tie.Need-take-ends-requires Inv-loop μ-loop
-take-ends-requires c κs = omega arith
 
 mul-links : tie.Need-mul-links Inv-loop μ-loop
 mul-links c = omega arith
@@ -26,6 +25,9 @@ mul-ways c = omega arith
 
 add-ways : tie.Need-add-ways Inv-loop μ-loop
 add-ways c = omega arith
+
+take-ends-requires : tie.Need-take-ends-requires Inv-loop μ-loop
+take-ends-requires c κs = omega arith
 
 add-next-new : tie.Need-add-next-new Inv-loop μ-loop
 add-next-new c = omega arith
@@ -41,6 +43,12 @@ loop-holds c =
 
 set-bit-requires : tie.Need-set-bit-requires Inv-loop μ-loop
 set-bit-requires c κs = omega arith
+
+mul-join-row : tie.Need-mul-join-row Inv-loop μ-loop
+mul-join-row c = omega arith
+
+add-join-row : tie.Need-add-join-row Inv-loop μ-loop
+add-join-row c = omega arith
 
 join-row-requires : tie.Need-join-row-requires Inv-loop μ-loop
 join-row-requires c κs = omega arith
@@ -60,7 +68,8 @@ loop-again c =
     let set = join .before .before .before .before in
     let at = set .before .before .before in
     let s = at .before .before .before .before .before .before .before .before .before in
-    row-on (s .pre .1) (omega arith) (at .loop .inv) (set .set-bit .ensures) (join .join-row .ensures) (c .next-new2 .ensures)
+    row-on (s .pre .1) (omega arith) (at .loop .inv) (set .set-bit .ensures) (join .join-row .ensures waysAt (s .args .a) (at .loop .b) refl refl)
+    (c .next-new2 .ensures)
 
 same-length : tie.Need-same-length Inv-loop μ-loop
 same-length c = omega arith
@@ -69,7 +78,7 @@ returns : tie.Need-returns Inv-loop μ-loop
 returns c =
     let ends = c .before .before .before .before .before .before in
     let s = ends .before .before .before .before in
-    row-end (s .pre .1) (ends .take-ends .ensures) (omega arith) (c .before .loop .inv)
+    row-end (s .pre .1) (ends .take-ends .ensures (s .args .a) refl refl) (omega arith) (c .before .loop .inv)
 
 pub reach-row-spec : {M : Type 1} → statement M
 reach-row-spec =
@@ -77,15 +86,17 @@ reach-row-spec =
     (tie.spec
     Inv-loop
     μ-loop
-    take-ends-requires
     mul-links
     add-links
     mul-ways
     add-ways
+    take-ends-requires
     add-next-new
     next-new-requires
     loop-holds
     set-bit-requires
+    mul-join-row
+    add-join-row
     join-row-requires
     add-next-new-2
     next-new-requires-2

@@ -7,25 +7,13 @@ use Rattle.rising.proofs.take_ends.Statement.{statement}
 use Rattle.rising.proofs.take_ends.Tie as tie
 
 abbrev Inv-loop : tie.InvT-loop
-Inv-loop w₀ a linked links ways i₀ w i = Taking w₀ w a linked i
+Inv-loop w₀ links ways linked i₀ w i = Taking w₀ w links ways linked i
 
 abbrev μ-loop : tie.MeasureT-loop
-μ-loop w₀ a linked links ways i₀ w i = 8 - i
-
-mul-links : tie.Need-mul-links Inv-loop μ-loop
-mul-links c = omega arith
-
-add-links : tie.Need-add-links Inv-loop μ-loop
-add-links c = omega arith
-
-mul-ways : tie.Need-mul-ways Inv-loop μ-loop
-mul-ways c = omega arith
-
-add-ways : tie.Need-add-ways Inv-loop μ-loop
-add-ways c = omega arith
+μ-loop w₀ links ways linked i₀ w i = 8 - i
 
 loop-holds : tie.Need-loop-holds Inv-loop μ-loop
-loop-holds c = taking-start (c .args .w .now) (c .args .a) (c .args .linked .now)
+loop-holds c = taking-start (c .args .w .now) (c .args .links) (c .args .ways) (c .args .linked .now)
 
 mul-old : tie.Need-mul-old Inv-loop μ-loop
 mul-old c = omega arith
@@ -61,16 +49,13 @@ loop-again : tie.Need-loop-again Inv-loop μ-loop
 loop-again c =
     let s = c .before .before .before .before in
     let at = c .before .before .before .loop in
-    taking-on (s .args .w .now) (at .w) (s .args .a) (s .args .linked .now) (at .i) (at .inv) (s .pre .1) (omega arith) (s .pre .0)
+    taking-on (at .inv) (s .pre .0) (s .pre .1) (omega arith)
 
 same-length : tie.Need-same-length Inv-loop μ-loop
 same-length c = omega arith
 
 returns : tie.Need-returns Inv-loop μ-loop
-returns c =
-    let a = c .before .before .args in
-    let at = c .before .loop in
-    taking-end (a .w .now) (at .w) (a .a) (a .linked .now) (at .i) (omega arith) (at .inv)
+returns c = taking-end (c .before .loop .inv) (omega arith)
 
 pub take-ends-spec : {M : Type 1} → statement M
 take-ends-spec =
@@ -78,10 +63,6 @@ take-ends-spec =
     (tie.spec
     Inv-loop
     μ-loop
-    mul-links
-    add-links
-    mul-ways
-    add-ways
     loop-holds
     mul-old
     shared-slice-read-old
