@@ -63,8 +63,9 @@ fn mark_block(log: &[u32], block: usize, w: &mut [u32])
     requires { ⌜ PassedLog (now log) × (length (now w) ≡ blockWords) × (now w ≡ replicate (length (now w)) 0) ⌝ }
     ensures { λ _. ⌜ BlockMarks block (contentOf (now (log .entry))) (now (w .exit)) ⌝ }
 {
+    let last = log.len() - 1;
     let mut at = 1;
-    while at + 1 < log.len() {
+    while at < last {
         let from = log::number_of(log[at]);
         at = take_group(log, at + 1, from, block, w);
     }

@@ -36,8 +36,9 @@ fn mark_links(log: &[u32], w: &mut [u32])
     requires { ⌜ PassedLog (now log) × (nextAt ≤ length (now w)) × NoneMarked (now w) ⌝ }
     ensures { λ _. ⌜ LinksMarked (now (log .entry)) (now (w .entry)) (now (w .exit)) ⌝ }
 {
+    let last = log.len() - 1;
     let mut at = 1;
-    while at + 1 < log.len() {
+    while at < last {
         let from = log::number_of(log[at]);
         at = mark_group(log, at + 1, LINKS + 8 * from, w);
     }

@@ -6,23 +6,24 @@ use Prim.Native.Nat.{_-_}
 use native.Mathlib.Omega.{arith}
 use borrow.Author.Needs.{needs}
 use lib.ListN.{length}
+use Rattle.log.proofs.Walk.{first-here}
 use Rattle.copying.proofs.Rows.{Marking, marking-start, first-to, from-nearest, marking-on, marking-end}
 use Rattle.copying.proofs.mark_block.Statement.{statement}
 use Rattle.copying.proofs.mark_block.Tie as tie
 
 abbrev Inv-loop : tie.InvT-loop
-Inv-loop log block w₀ at₀ w at = Marking log w₀ w block at
+Inv-loop log block w₀ last at₀ w at = Marking log w₀ w block at
 
 abbrev μ-loop : tie.MeasureT-loop
-μ-loop log block w₀ at₀ w at = length log - at
+μ-loop log block w₀ last at₀ w at = length log - at
+
+sub-last : tie.Need-sub-last Inv-loop μ-loop
+sub-last c = let first = first-here (c .before .before .args .log .now) (c .before .before .pre .0) in omega (arith, first .within)
 
 loop-holds : tie.Need-loop-holds Inv-loop μ-loop
 loop-holds c =
     let s = c .before .before in
     marking-start (s .args .log .now) (s .args .w .now) (s .args .block) (s .pre .0) (s .pre .1) (s .pre .2)
-
-add-loop : tie.Need-add-loop Inv-loop μ-loop
-add-loop c = omega arith
 
 mul-number-of : tie.Need-mul-number-of Inv-loop μ-loop
 mul-number-of c = omega arith
@@ -72,8 +73,8 @@ mark-block-spec =
     (tie.spec
     Inv-loop
     μ-loop
+    sub-last
     loop-holds
-    add-loop
     mul-number-of
     shared-slice-read-number-of
     number-of-requires

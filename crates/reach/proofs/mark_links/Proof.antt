@@ -6,24 +6,25 @@ use Prim.Native.Nat.{ℕ, _+_, _-_, _*_}
 use native.Mathlib.Omega.{arith}
 use borrow.Author.Needs.{needs}
 use lib.ListN.{length}
+use Rattle.log.proofs.Walk.{first-here}
 use Rattle.bits.specs.Work.{linksAt}
 use Rattle.reach.proofs.Marks.{Marking, marking-start, first-to, from-nearest, marking-on, marking-end}
 use Rattle.reach.proofs.mark_links.Statement.{statement}
 use Rattle.reach.proofs.mark_links.Tie as tie
 
 abbrev Inv-loop : tie.InvT-loop
-Inv-loop log w₀ at₀ w at = Marking log w₀ w at
+Inv-loop log w₀ last at₀ w at = Marking log w₀ w at
 
 abbrev μ-loop : tie.MeasureT-loop
-μ-loop log w₀ at₀ w at = length log - at
+μ-loop log w₀ last at₀ w at = length log - at
+
+sub-last : tie.Need-sub-last Inv-loop μ-loop
+sub-last c = let first = first-here (c .before .before .args .log .now) (c .before .before .pre .0) in omega (arith, first .within)
 
 loop-holds : tie.Need-loop-holds Inv-loop μ-loop
 loop-holds c =
     let s = c .before .before in
     marking-start (s .args .log .now) (s .args .w .now) (s .pre .0) (s .pre .2)
-
-add-loop : tie.Need-add-loop Inv-loop μ-loop
-add-loop c = omega arith
 
 mul-number-of : tie.Need-mul-number-of Inv-loop μ-loop
 mul-number-of c = omega arith
@@ -82,8 +83,8 @@ mark-links-spec =
     (tie.spec
     Inv-loop
     μ-loop
+    sub-last
     loop-holds
-    add-loop
     mul-number-of
     shared-slice-read-number-of
     number-of-requires
