@@ -1,7 +1,7 @@
 -- The questions word by word: what an answer says of the word, and what it takes to be given one.
 use mathlib.Core.Path.{_≡_, refl, _∙_, ap, sym}
 use mathlib.Core.Logic.{_⊎_, inl, inr}
-use mathlib.Core.Bool.{Bool, true, false, _&&_, true≢false}
+use mathlib.Core.Bool.{Bool, true, false, not, _&&_, true≢false}
 use mathlib.Core.List.{List}
 use Prim.Native.Nat.{ℕ, _+_, _-_, _<_, _≤_}
 use native.Mathlib.Omega.{arith}
@@ -81,8 +81,8 @@ module _ (l : List ℕ) (p k : ℕ) (is-kind : k ≡ kind (getD l p 0)) where
   pub not-last : p + 1 < length l → eqb k 3 ≡ toBeforeLast l p
   not-last h = rw (lt-ltb (p + 1) (length l) h, ← is-kind)
 
-  pub is-last : length l ≤ p + 1 → ltb p (length l - 1) ≡ toBeforeLast l p
-  is-last h = rw (le-ltb p (length l - 1) (omega arith), le-ltb (p + 1) (length l) h)
+  pub is-last : p ≡ length l - 1 → not (eqb p (length l - 1)) ≡ toBeforeLast l p
+  is-last h = rw (eq-eqb p (length l - 1) h, le-ltb (p + 1) (length l) (omega arith))
 
 -- a question that is followed by an answer was answered yes
 pub asked : {A : Type 0} (k p : ℕ) (b : Bool) (next : Answer A) (a : A) → question k p b next ≡ given a → (b ≡ true) × (next ≡ given a)

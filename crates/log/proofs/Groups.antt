@@ -2,7 +2,7 @@
 -- what it takes to go on or to stop.
 use mathlib.Core.Path.{_≡_, refl, _∙_, ap, sym}
 use mathlib.Core.Logic.{_⊎_, inl, inr, ⊎-elim}
-use mathlib.Core.Bool.{Bool, true, false, true≢false}
+use mathlib.Core.Bool.{true, false, true≢false}
 use mathlib.Core.List.{List}
 use Prim.Native.Nat.{ℕ, _+_, _<_, _≤_}
 use native.Mathlib.Omega.{arith}
@@ -16,7 +16,7 @@ use Rattle.log.specs.Places.{onwardsAt, Stopped}
 use Rattle.log.specs.declared.LogWord.{LogWord}
 use Rattle.log.specs.declared.LogWord.the-variants.{Taken, GivenUp}
 use Rattle.log.specs.declared.Ceilings.{Ceilings}
-use Rattle.log.proofs.Asked.{to-there, there-to, group-to, group-taken, ToTaken}
+use Rattle.log.proofs.Asked.{behind, to-there, there-to, group-to, group-taken, ToTaken}
 use Rattle.log.proofs.Places.{stop-last, stop-refused, step-from, step-to}
 
 -- at `p` a group begins, or the last word stands
@@ -44,14 +44,14 @@ module _ (m : Ceilings) (l : List ℕ) (n p t : ℕ) where
       let after : 1 < p = ltb-true 1 p (taken .from-before) in
       ⊎-elim (λ first. omega arith) (λ other. true≢false (sym (there-to l p h (taken .is-to)) ∙ other)) (g .begins)
 
-  pub group-ends : (b : Bool) → InGroup m l n p t → b ≡ toBeforeLast l p → b ≡ false → AtGroup m l n p t
-  group-ends b g h none =
+  pub group-ends : InGroup m l n p t → toBeforeLast l p ≡ false → AtGroup m l n p t
+  group-ends g other =
       record {
         behind-head = omega arith;
         within = g .within;
         few = g .few;
         same = rw (lt-ltb 1 p (g .behind-from)) (g .same);
-        begins = inr (sym h ∙ none);
+        begins = inr other;
       }
 
   pub at-last : AtGroup m l n p t → length l ≤ p + 1 → Stopped m l n p t
@@ -59,16 +59,19 @@ module _ (m : Ceilings) (l : List ℕ) (n p t : ℕ) where
 
   module _ (r : LogWord) (k x : ℕ) where
     pub from-taken : AtGroup m l n p t → p + 1 < length l → wordAnswer r ≡ groupWord m n p (getD l p 0) (drop (p + 1) l) (ltb 1 p) t
-        → (q : ℕ) → r ≡ Taken k x q → InGroup m l n (p + 1) t
+        → (q : ℕ) → r ≡ Taken k x q → InGroup m l n (p + 1) t × (toBeforeLast l (p + 1) ≡ true)
     from-taken g h e q is =
         let passed = sym e ∙ ap wordAnswer is in
         ⊎-elim
-        (λ taken. record {
-          behind-from = omega arith;
-          within = h;
-          few = omega arith;
-          same = sym (step-from m l n p (ltb 1 p) t (k, x, q) h passed (taken .is-from)) ∙ g .same;
-        })
+        (λ taken. (
+          record {
+            behind-from = omega arith;
+            within = h;
+            few = omega arith;
+            same = sym (step-from m l n p (ltb 1 p) t (k, x, q) h passed (taken .is-from)) ∙ g .same;
+          },
+          sym (behind l (p + 1)) ∙ taken .to-follows,
+        ))
         (λ taken. absurd (no-to g h taken))
         (group-taken m n p (getD l p 0) (drop (p + 1) l) (ltb 1 p) t (k, x, q) passed)
 
@@ -78,16 +81,16 @@ module _ (m : Ceilings) (l : List ℕ) (n p t : ℕ) where
         record { within = g .within; answer = sym (g .same) ∙ stop-refused m l n p (ltb 1 p) t k x h (sym e ∙ ap wordAnswer is) }
 
     -- of a to word behind its group's from word, 7 and 8 are left to ask
-    module _ (b : Bool) (g : InGroup m l n p t) (h : b ≡ toBeforeLast l p) (yes : b ≡ true)
+    module _ (g : InGroup m l n p t) (is-to : toBeforeLast l p ≡ true)
         (e : wordAnswer r
         ≡ question 7 p (ltb (toEpisode (getD l p 0)) n)
         (question 8 p (ltb t (m .words)) (given (3, toEpisode (getD l p 0), toPause (getD l p 0))))) where
       all-asked : wordAnswer r ≡ groupWord m n p (getD l p 0) (drop (p + 1) l) true t
-      all-asked = e ∙ sym (group-to m n p (getD l p 0) (drop (p + 1) l) true t (to-there l p (sym h ∙ yes) .1))
+      all-asked = e ∙ sym (group-to m n p (getD l p 0) (drop (p + 1) l) true t (to-there l p is-to .1))
 
       pub to-taken : (q : ℕ) → r ≡ Taken k x q → InGroup m l n (p + 1) (t + 1)
       to-taken q is =
-          let there = to-there l p (sym h ∙ yes) in
+          let there = to-there l p is-to in
           record {
             behind-from = omega arith;
             within = there .0;
@@ -97,8 +100,9 @@ module _ (m : Ceilings) (l : List ℕ) (n p t : ℕ) where
 
       pub to-given-up : r ≡ GivenUp k x → Stopped m l n p t
       to-given-up is =
-          let there = to-there l p (sym h ∙ yes) in
+          let there = to-there l p is-to in
           record {
             within = g .within;
-            answer = rw (lt-ltb 1 p (g .behind-from)) (sym (g .same) ∙ stop-refused m l n p true t k x (there .0) (sym all-asked ∙ ap wordAnswer is));
+            answer =
+                rw (lt-ltb 1 p (g .behind-from)) (sym (g .same) ∙ stop-refused m l n p true t k x (there .0) (sym all-asked ∙ ap wordAnswer is));
           }

@@ -80,7 +80,7 @@ pub fn to_before_last(log: &[u32], at: usize) -> bool
     ensures { λ r. ⌜ r ≡ toBeforeLast (now (log .entry)) at ⌝ }
 {
     let w = log[at];
-    at < log.len() - 1 && kind_of(w) == 3
+    at != log.len() - 1 && kind_of(w) == 3
 }
 
 // The place behind the to words that stand from `start` on.
@@ -186,27 +186,34 @@ fn first_stop(most: Ceilings, log: &[u32], n: usize) -> Stop
 {
     let last = log.len() - 1;
     let mut at = 1;
-    let mut count = 0;
+    // How many words before `at` are no to words: the head and the from words.
+    let mut others = 1;
     let place = 'log: loop {
         if at == last {
             break 'log at;
         }
-        // A group starts with its from word, which answers question 5 for its to words. A to word is met here only as word 1, before any
-        // from word.
-        let LogWord::Taken(_, _, _) = group_word(most, log, n, at, 1 < at, count) else {
+        // A group starts with its from word, which answers question 5 for its to words, and question 6 says that it has one. A to word is met
+        // here only as word 1, before any from word.
+        let LogWord::Taken(_, _, _) = group_word(most, log, n, at, 1 < at, at - others) else {
             break 'log at;
         };
         at += 1;
+        others += 1;
         // Its to words.
-        while to_before_last(log, at) {
-            let LogWord::Taken(_, _, _) = to_word(most, n, at, log[at], count) else {
+        loop {
+            let LogWord::Taken(_, _, _) = to_word(most, n, at, log[at], at - others) else {
                 break 'log at;
             };
             at += 1;
-            count += 1;
+            if !to_before_last(log, at) {
+                break;
+            }
         }
     };
-    Stop { place, count }
+    Stop {
+        place,
+        count: place - others,
+    }
 }
 
 // The answer of a log with `n` episodes and `count` to words, unless the word is given up.
