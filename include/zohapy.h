@@ -16,7 +16,7 @@ extern "C" {
 #endif
 
 /* The version of the library. */
-#define ZOHAPY_VERSION "0.3.0"
+#define ZOHAPY_VERSION "0.4.0"
 
 /* The work words that a report or a copy needs. */
 #define ZOHAPY_WORK_WORDS 16384

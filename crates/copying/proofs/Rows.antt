@@ -12,14 +12,14 @@ use lib.Seq.{length-take-le, getD-take, getD-drop, getD-set-same, getD-set-other
 use borrow.Author.Tests.{ne-eqb}
 use Rattle.order.specs.Order.{All}
 use Rattle.paths.proofs.Passing.{passing-equal}
-use Rattle.log.specs.Words.{kind, number, toEpisode, toPause}
+use Rattle.log.specs.Words.{kind, toEpisode, toPause}
 use Rattle.log.specs.Content.{Heard, Content, joins, pausesOf, least, leastPause}
 use Rattle.log.specs.Log.{toBeforeLast, contentOf, graphOf, PassedLog}
 use Rattle.log.specs.Groups.{heardBefore, nearestFrom, ToWords}
 use Rattle.log.proofs.Asked.{to-there}
 use Rattle.log.proofs.Pauses.{pauses-append, pauses-one, pauses-none, pauses-heard, heard-pauses, link-heard, least-mem, least-more}
-use Rattle.log.proofs.Laws.{graph-episodes, to-word, before-head, pass-from, pass-to, heard-passed}
-use Rattle.log.proofs.Walk.{no-words, words-more, along, nearest-same, GroupHere, first-here, to-follows, next-here}
+use Rattle.log.proofs.Laws.{graph-episodes, before-head, pass-to, heard-passed}
+use Rattle.log.proofs.Walk.{no-words, words-more, along, nearest-same, GroupHere, first-here, from-passed, to-fits, next-here}
 use Rattle.writing.specs.Layout.{BeginsWith}
 use Rattle.copying.specs.FairCopy.{linked, linkedTo, group}
 use Rattle.copying.specs.Copying.{
@@ -122,29 +122,22 @@ group-first block l start w e =
     let there = to-there l start e in
     record { words = no-words l start (omega (arith, there .0)); same-length = refl; marks = λ m. m }
 
--- the next to word of a group from the block
-module _ (l : List ℕ) (start p : ℕ) (w w′ : List ℕ) (passed : PassedLog l) (behind : 0 < start)
-    (s : GroupTaken (nearestFrom l start / 64) l start p w w′) (e : toBeforeLast l p ≡ true) where
-  pub to-fits : toEpisode (getD l p 0) < 256
-  to-fits =
-      let there = to-there l p e in
-      let before = s .words .start-before in
-      to-word l passed p (omega arith) (there .0) (there .1)
-
-  -- its link is marked in the row of the nearest from word
-  pub group-more : (w″ : List ℕ) → Lowered (rowAt (nearestFrom l start) + toEpisode (getD l p 0)) (toPause (getD l p 0)) w′ w″
-      → GroupTaken (nearestFrom l start / 64) l start (p + 1) w w″
-  group-more w″ d =
-      let before = s .words .start-before in
-      let more = pass-to l p (omega arith) (s .words .within) (to-there l p e .1) .0 in
-      let link : Heard = record { from = nearestFrom l start; to = toEpisode (getD l p 0); pause = toPause (getD l p 0) } in
-      record {
-        words = words-more l start p (s .words) e;
-        same-length = d .same-length ∙ s .same-length;
-        marks = λ m.
-            rw (more, nearest-same l start p (s .words) behind)
-            (marks-here (nearestFrom l start / 64) (graphOf l .n) link (heardBefore l p) w′ w″ (passed-few l passed) to-fits refl (s .marks m) d);
-      }
+-- in a group from the block, the link of the next to word is marked in the row of the nearest from word
+pub group-more : (l : List ℕ) (start p : ℕ) (w w′ w″ : List ℕ) → PassedLog l → 0 < start → GroupTaken (nearestFrom l start / 64) l start p w w′
+    → toBeforeLast l p ≡ true → Lowered (rowAt (nearestFrom l start) + toEpisode (getD l p 0)) (toPause (getD l p 0)) w′ w″
+    → GroupTaken (nearestFrom l start / 64) l start (p + 1) w w″
+group-more l start p w w′ w″ passed behind s e d =
+    let before = s .words .start-before in
+    let more = pass-to l p (omega arith) (s .words .within) (to-there l p e .1) .0 in
+    let link : Heard = record { from = nearestFrom l start; to = toEpisode (getD l p 0); pause = toPause (getD l p 0) } in
+    record {
+      words = words-more l start p (s .words) e;
+      same-length = d .same-length ∙ s .same-length;
+      marks = λ m.
+          rw (more, nearest-same l start p (s .words) behind)
+          (marks-here (nearestFrom l start / 64) (graphOf l .n) link (heardBefore l p) w′ w″ (passed-few l passed)
+          (to-fits l passed start p behind (s .words) e) refl (s .marks m) d);
+    }
 
 -- the to words of a group from another block are passed over
 pub group-passed : (block : ℕ) (l : List ℕ) (start r : ℕ) (w : List ℕ) → 0 < start → nearestFrom l start / 64 ≢ block → ToWords l start r
@@ -180,24 +173,14 @@ marking-start l w block passed long zeros =
       marks = rw (before-head l (omega arith)) (marks-none block (graphOf l .n) w zeros (passed-few l passed) long);
     }
 
--- the group that starts at a place
-module _ (l w w′ : List ℕ) (block p : ℕ) (passed : PassedLog l) (s : Marking l w w′ block p) (inner : p + 1 < length l) where
-  -- its from word is followed by a to word
-  pub first-to : toBeforeLast l (p + 1) ≡ true
-  first-to = to-follows l passed p (s .here) inner
-
-  -- it is the nearest from word of the to words
-  pub from-nearest : number (getD l p 0) ≡ nearestFrom l (p + 1)
-  from-nearest = sym (pass-from l p (s .here .behind) (s .here .within) (s .here .starts inner) .1)
-
-  pub marking-on : {r : ℕ} {w″ : List ℕ} → GroupTaken block l (p + 1) r w′ w″ → toBeforeLast l r ≡ false → Marking l w w″ block r
-  marking-on {r} {w″} d other =
-      let same = pass-from l p (s .here .behind) (s .here .within) (s .here .starts inner) .0 in
-      record {
-        here = next-here l passed (p + 1) r (omega arith) (d .words) other;
-        same-length = d .same-length ∙ s .same-length;
-        marks = d .marks (rw same (s .marks));
-      }
+pub marking-on : {l w w′ w″ : List ℕ} {block p r : ℕ} → PassedLog l → Marking l w w′ block p → p + 1 < length l → GroupTaken block l (p + 1) r w′ w″
+    → toBeforeLast l r ≡ false → Marking l w w″ block r
+marking-on {l} {p = p} {r} passed s inner d other =
+    record {
+      here = next-here l passed (p + 1) r (omega arith) (d .words) other;
+      same-length = d .same-length ∙ s .same-length;
+      marks = d .marks (rw (from-passed l passed p (s .here) inner .0) (s .marks));
+    }
 
 -- at the last word the block marks the links of the log
 pub marking-end : (l w w′ : List ℕ) (block p : ℕ) → PassedLog l → Marking l w w′ block p → length l ≤ p + 1 → BlockMarks block (contentOf l) w′

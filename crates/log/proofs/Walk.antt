@@ -7,11 +7,11 @@ use Prim.Native.Nat.{ℕ, zero, suc, _+_, _≤_, _<_}
 use native.Mathlib.Decide.{ℕ-discrete}
 use native.Mathlib.Omega.{arith}
 use lib.ListN.{length, getD}
-use Rattle.log.specs.Words.{kind}
+use Rattle.log.specs.Words.{kind, number, toEpisode}
 use Rattle.log.specs.Log.{toBeforeLast, PassedLog}
-use Rattle.log.specs.Groups.{nearestFrom, ToWords}
+use Rattle.log.specs.Groups.{heardBefore, nearestFrom, ToWords}
 use Rattle.log.proofs.Asked.{to-there, there-to}
-use Rattle.log.proofs.Links.{pass-to}
+use Rattle.log.proofs.Laws.{from-word, to-word, pass-from, pass-to}
 use Rattle.log.proofs.WellFormed.{well-formed}
 
 -- from one place up to another
@@ -67,8 +67,9 @@ pub record GroupHere (l : List ℕ) (p : ℕ) : Type 0 where
   pub within : p < length l
   pub starts : p + 1 < length l → kind (getD l p 0) ≡ 2
 
--- in a log that passes a group starts behind the head, and behind the to words of another
+-- of a log that passes
 module _ (l : List ℕ) (passed : PassedLog l) where
+  -- a group starts behind the head
   pub first-here : GroupHere l 1
   first-here =
       let (m, n, t, e, few) = passed in
@@ -76,13 +77,29 @@ module _ (l : List ℕ) (passed : PassedLog l) where
       let long = f .long in
       record { behind = omega arith; within = omega arith; starts = λ h. f .starts (omega arith) }
 
-  -- its from word is followed by a to word
-  pub to-follows : (p : ℕ) → GroupHere l p → p + 1 < length l → toBeforeLast l (p + 1) ≡ true
-  to-follows p s inner =
-      let (m, n, t, e, few) = passed in
-      let (more, k) = well-formed m l n t e .follows p (s .behind) inner (s .starts inner) in
-      there-to l (p + 1) (omega arith) k
+  module _ (p : ℕ) (s : GroupHere l p) (inner : p + 1 < length l) where
+    -- its from word is followed by a to word
+    pub to-follows : toBeforeLast l (p + 1) ≡ true
+    to-follows =
+        let (m, n, t, e, few) = passed in
+        let (more, k) = well-formed m l n t e .follows p (s .behind) inner (s .starts inner) in
+        there-to l (p + 1) (omega arith) k
 
+    -- it gives no link, is the nearest from word there, and gives an episode
+    pub from-passed : (heardBefore l (p + 1) ≡ heardBefore l p) × (nearestFrom l (p + 1) ≡ number (getD l p 0)) × (number (getD l p 0) < 256)
+    from-passed =
+        let k = s .starts inner in
+        let (same, near) = pass-from l p (s .behind) (s .within) k in
+        (same, near, from-word l passed p (s .behind) inner k)
+
+  -- a to word of a group gives an episode
+  pub to-fits : (start p : ℕ) → 0 < start → ToWords l start p → toBeforeLast l p ≡ true → toEpisode (getD l p 0) < 256
+  to-fits start p behind s e =
+      let there = to-there l p e in
+      let before = s .start-before in
+      to-word l passed p (omega arith) (there .0) (there .1)
+
+  -- behind the to words of a group another starts
   pub next-here : (start p : ℕ) → 0 < start → ToWords l start p → toBeforeLast l p ≡ false → GroupHere l p
   next-here start p behind s other =
       let (m, n, t, e, few) = passed in

@@ -20,12 +20,12 @@ use Prim.Native.Nat.{ℕ, _+_, _-_, _*_, _/_, _≤_, _<_}
 use native.Mathlib.Decide.{ℕ-discrete}
 use native.Mathlib.Omega.{arith}
 use lib.ListN.{length, getD}
-use Rattle.log.specs.Words.{number, toEpisode}
+use Rattle.log.specs.Words.{toEpisode}
 use Rattle.log.specs.Content.{joins}
 use Rattle.log.specs.Groups.{linksBefore, nearestFrom}
 use Rattle.log.proofs.Asked.{to-there}
-use Rattle.log.proofs.Laws.{from-word, to-word, before-head, pass-from, links-to, heard-passed}
-use Rattle.log.proofs.Walk.{no-words, words-more, nearest-same, GroupHere, first-here, to-follows, next-here}
+use Rattle.log.proofs.Laws.{before-head, links-to, heard-passed}
+use Rattle.log.proofs.Walk.{no-words, words-more, nearest-same, GroupHere, first-here, from-passed, to-fits, next-here}
 use Rattle.bits.specs.Bits.{bit, BitSet}
 use Rattle.bits.specs.Work.{linksAt, waysAt, Matrix, Outside, nextAt}
 use Rattle.bits.proofs.Rows.{bits-zero}
@@ -69,27 +69,20 @@ group-first l start w e =
     let there = to-there l start e in
     record { words = no-words l start (omega (arith, there .0)); outside = outside-none linksAt waysAt w; links = λ m. m }
 
--- the next to word of the group
-module _ (l : List ℕ) (start p : ℕ) (w w′ : List ℕ) (passed : PassedLog l) (behind : 0 < start) (s : GroupMarked l start p w w′) (e : toBeforeLast l p ≡ true) where
-  pub to-fits : toEpisode (getD l p 0) < 256
-  to-fits =
-      let there = to-there l p e in
-      let before = s .words .start-before in
-      to-word l passed p (omega arith) (there .0) (there .1)
-
-  -- its link is marked in the row of the nearest from word
-  pub group-more : (w″ : List ℕ) → nearestFrom l start < 256 → BitSet w′ w″ (linksAt + 8 * nearestFrom l start) (toEpisode (getD l p 0))
-      → GroupMarked l start (p + 1) w w″
-  group-more w″ low d =
-      let before = s .words .start-before in
-      let m = marked (nearestFrom l start) (toEpisode (getD l p 0)) low to-fits d in
-      record {
-        words = words-more l start p (s .words) e;
-        outside = outside-then (s .outside) (m .outside);
-        links = λ n.
-            rw (links-to l p (omega arith) (s .words .within) (to-there l p e .1), nearest-same l start p (s .words) behind)
-            (matrix-more (nearestFrom l start) (toEpisode (getD l p 0)) low to-fits (s .links n) m);
-      }
+-- the link of the next to word is marked in the row of the nearest from word
+pub group-more : (l : List ℕ) (start p : ℕ) (w w′ w″ : List ℕ) → PassedLog l → 0 < start → nearestFrom l start < 256 → GroupMarked l start p w w′
+    → toBeforeLast l p ≡ true → BitSet w′ w″ (linksAt + 8 * nearestFrom l start) (toEpisode (getD l p 0)) → GroupMarked l start (p + 1) w w″
+group-more l start p w w′ w″ passed behind low s e d =
+    let before = s .words .start-before in
+    let fits = to-fits l passed start p behind (s .words) e in
+    let m = marked (nearestFrom l start) (toEpisode (getD l p 0)) low fits d in
+    record {
+      words = words-more l start p (s .words) e;
+      outside = outside-then (s .outside) (m .outside);
+      links = λ n.
+          rw (links-to l p (omega arith) (s .words .within) (to-there l p e .1), nearest-same l start p (s .words) behind)
+          (matrix-more (nearestFrom l start) (toEpisode (getD l p 0)) low fits (s .links n) m);
+    }
 
 -- at place `p` a group starts or the last word stands, and the matrix holds the links of the words before it
 pub record Marking (l w w′ : List ℕ) (p : ℕ) : Type 0 where
@@ -115,27 +108,15 @@ marking-start l w passed zeros =
           };
     }
 
--- the group that starts at a place
-module _ (l w w′ : List ℕ) (p : ℕ) (passed : PassedLog l) (s : Marking l w w′ p) (inner : p + 1 < length l) where
-  -- its from word is followed by a to word
-  pub first-to : toBeforeLast l (p + 1) ≡ true
-  first-to = to-follows l passed p (s .here) inner
-
-  -- it is the nearest from word of the to words, and gives an episode
-  pub from-nearest : (nearestFrom l (p + 1) ≡ number (getD l p 0)) × (number (getD l p 0) < 256)
-  from-nearest =
-      let k = s .here .starts inner in
-      (pass-from l p (s .here .behind) (s .here .within) k .1, from-word l passed p (s .here .behind) inner k)
-
-  pub marking-on : {r : ℕ} {w″ : List ℕ} → GroupMarked l (p + 1) r w′ w″ → toBeforeLast l r ≡ false → Marking l w w″ r
-  marking-on {r} {w″} d other =
-      let same : linksBefore l (p + 1) ≡ linksBefore l p =
-      ap (map joins) (pass-from l p (s .here .behind) (s .here .within) (s .here .starts inner) .0) in
-      record {
-        here = next-here l passed (p + 1) r (omega arith) (d .words) other;
-        outside = outside-then (s .outside) (d .outside);
-        links = d .links (rw same (s .links));
-      }
+pub marking-on : {l w w′ w″ : List ℕ} {p r : ℕ} → PassedLog l → Marking l w w′ p → p + 1 < length l → GroupMarked l (p + 1) r w′ w″
+    → toBeforeLast l r ≡ false → Marking l w w″ r
+marking-on {l} {p = p} {r} passed s inner d other =
+    let same : linksBefore l (p + 1) ≡ linksBefore l p = ap (map joins) (from-passed l passed p (s .here) inner .0) in
+    record {
+      here = next-here l passed (p + 1) r (omega arith) (d .words) other;
+      outside = outside-then (s .outside) (d .outside);
+      links = d .links (rw same (s .links));
+    }
 
 -- at the last word it holds the links of the log
 pub marking-end : (l w w′ : List ℕ) (p : ℕ) → PassedLog l → Marking l w w′ p → length l ≤ p + 1 → LinksMarked l w w′

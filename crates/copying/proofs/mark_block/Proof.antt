@@ -1,13 +1,13 @@
 -- `copying::mark_block` meets its contract. The invariant: a group starts at `at` or the last word stands there, and the block marks the links
 -- of the words before it.
 -- Assumes nothing.
-use mathlib.Core.Path.{_∙_}
+use mathlib.Core.Path.{_∙_, sym}
 use Prim.Native.Nat.{_-_}
 use native.Mathlib.Omega.{arith}
 use borrow.Author.Needs.{needs}
 use lib.ListN.{length}
-use Rattle.log.proofs.Walk.{first-here}
-use Rattle.copying.proofs.Rows.{Marking, marking-start, first-to, from-nearest, marking-on, marking-end}
+use Rattle.log.proofs.Walk.{first-here, to-follows, from-passed}
+use Rattle.copying.proofs.Rows.{Marking, marking-start, marking-on, marking-end}
 use Rattle.copying.proofs.mark_block.Statement.{statement}
 use Rattle.copying.proofs.mark_block.Tie as tie
 
@@ -43,8 +43,8 @@ take-group-requires c κs =
     let at = c .before .before .before .before .loop in (
       s .pre .0,
       omega arith,
-      first-to (s .args .log .now) (s .args .w .now) (at .w) (s .args .block) (at .at) (s .pre .0) (at .inv) (omega arith),
-      c .before .number-of .ensures ∙ from-nearest (s .args .log .now) (s .args .w .now) (at .w) (s .args .block) (at .at) (s .pre .0) (at .inv) (omega arith),
+      to-follows (s .args .log .now) (s .pre .0) (at .at) (at .inv .here) (omega arith),
+      c .before .number-of .ensures ∙ sym (from-passed (s .args .log .now) (s .pre .0) (at .at) (at .inv .here) (omega arith) .1),
       at .inv .same-length ∙ s .pre .1,
     )
 
@@ -56,7 +56,7 @@ loop-again c =
     let s = c .before .before .before .before .before .before .before .before .before .before in
     let at = c .before .before .before .before .before .before .before .loop in
     let group = c .before .before .take-group .ensures in
-    marking-on (s .args .log .now) (s .args .w .now) (at .w) (s .args .block) (at .at) (s .pre .0) (at .inv) (omega arith) (group .0) (group .1)
+    marking-on (s .pre .0) (at .inv) (omega arith) (group .0) (group .1)
 
 same-length : tie.Need-same-length Inv-loop μ-loop
 same-length c = omega arith

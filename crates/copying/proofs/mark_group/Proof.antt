@@ -10,8 +10,9 @@ use borrow.Author.Tests.{not-true, not-false}
 use lib.ListN.{length}
 use Rattle.log.specs.Log.{toBeforeLast}
 use Rattle.log.specs.Groups.{nearestFrom}
+use Rattle.log.proofs.Walk.{to-fits}
 use Rattle.copying.specs.Copying.{GroupTaken}
-use Rattle.copying.proofs.Rows.{group-first, to-fits, group-more}
+use Rattle.copying.proofs.Rows.{group-first, group-more}
 use Rattle.copying.proofs.mark_group.Statement.{statement}
 use Rattle.copying.proofs.mark_group.Tie as tie
 
@@ -42,7 +43,7 @@ fits c =
     let s = c .before .before .before .before .before .before .before in
     let at = c .before .before .before .before .loop in
     rw (c .before .before .to-word-of .ensures .0)
-    (to-fits (s .args .log .now) (s .args .start) (at .at) (s .args .w .now) (at .w) (s .pre .0) (s .pre .1) (at .inv .0) (at .inv .1))
+    (to-fits (s .args .log .now) (s .pre .0) (s .args .start) (at .at) (s .pre .1) (at .inv .0 .words) (at .inv .1))
 
 add-lower : tie.Need-add-lower Inv-loop μ-loop
 add-lower c = omega (arith, c .before .before .before .before .before .before .before .pre .3, fits c)
@@ -68,8 +69,8 @@ marked c =
     let s = c .before .before .before .before .before .before .before .before .before .before in
     let at = c .before .before .before .before .before .before .before .loop in
     let to = c .before .before .before .before .before .to-word-of .ensures in
-    group-more (s .args .log .now) (s .args .start) (at .at) (s .args .w .now) (at .w) (s .pre .0) (s .pre .1) (at .inv .0) (at .inv .1)
-    (c .before .before .lower .last .0) (rw (s .pre .3, to .0, to .1) at (c .before .before .lower .ensures))
+    group-more (s .args .log .now) (s .args .start) (at .at) (s .args .w .now) (at .w) (c .before .before .lower .last .0) (s .pre .0) (s .pre .1)
+    (at .inv .0) (at .inv .1) (rw (s .pre .3, to .0, to .1) at (c .before .before .lower .ensures))
 
 add-at : tie.Need-add-at Inv-loop μ-loop
 add-at c = omega arith

@@ -9,8 +9,9 @@ use borrow.Author.Needs.{needs}
 use borrow.Author.Tests.{not-true, not-false}
 use lib.ListN.{length}
 use Rattle.log.specs.Log.{toBeforeLast}
+use Rattle.log.proofs.Walk.{to-fits}
 use Rattle.reach.specs.Reach.{GroupMarked}
-use Rattle.reach.proofs.Marks.{group-first, to-fits, group-more}
+use Rattle.reach.proofs.Marks.{group-first, group-more}
 use Rattle.reach.proofs.mark_group.Statement.{statement}
 use Rattle.reach.proofs.mark_group.Tie as tie
 
@@ -38,7 +39,7 @@ set-bit-requires : tie.Need-set-bit-requires Inv-loop μ-loop
 set-bit-requires c κs =
     let s = c .before .before .before .before .before .before in
     let at = c .before .before .before .loop in
-    let fits = to-fits (s .args .log .now) (s .args .start) (at .at) (s .args .w .now) (at .w) (s .pre .0) (s .pre .1) (at .inv .0) (at .inv .1) in
+    let fits = to-fits (s .args .log .now) (s .pre .0) (s .args .start) (at .at) (s .pre .1) (at .inv .0 .words) (at .inv .1) in
     let same = at .inv .0 .outside .same-length in
     omega (arith, fits, c .before .to-word-of .ensures .0, s .pre .3)
 
@@ -53,8 +54,8 @@ marked : (c : tie.After-slice-known2 Inv-loop μ-loop)
 marked c =
     let s = c .before .before .before .before .before .before .before .before .before in
     let at = c .before .before .before .before .before .before .loop in
-    group-more (s .args .log .now) (s .args .start) (at .at) (s .args .w .now) (at .w) (s .pre .0) (s .pre .1) (at .inv .0) (at .inv .1)
-    (c .before .before .set-bit .last .0) (s .pre .4)
+    group-more (s .args .log .now) (s .args .start) (at .at) (s .args .w .now) (at .w) (c .before .before .set-bit .last .0) (s .pre .0) (s .pre .1)
+    (s .pre .4) (at .inv .0) (at .inv .1)
     (rw (s .pre .3, c .before .before .before .before .to-word-of .ensures .0) at (c .before .before .set-bit .ensures))
 
 add-at : tie.Need-add-at Inv-loop μ-loop

@@ -6,9 +6,9 @@ use Prim.Native.Nat.{ℕ, _+_, _-_, _*_}
 use native.Mathlib.Omega.{arith}
 use borrow.Author.Needs.{needs}
 use lib.ListN.{length}
-use Rattle.log.proofs.Walk.{first-here}
+use Rattle.log.proofs.Walk.{first-here, to-follows, from-passed}
 use Rattle.bits.specs.Work.{linksAt}
-use Rattle.reach.proofs.Marks.{Marking, marking-start, first-to, from-nearest, marking-on, marking-end}
+use Rattle.reach.proofs.Marks.{Marking, marking-start, marking-on, marking-end}
 use Rattle.reach.proofs.mark_links.Statement.{statement}
 use Rattle.reach.proofs.mark_links.Tie as tie
 
@@ -48,11 +48,11 @@ mark-group-requires : tie.Need-mark-group-requires Inv-loop μ-loop
 mark-group-requires c κs =
     let s = c .before .before .before .before .before .before .before in
     let at = c .before .before .before .before .loop in
-    let (near, low) = from-nearest (s .args .log .now) (s .args .w .now) (at .w) (at .at) (s .pre .0) (at .inv) (omega arith) in
+    let (same-heard, near, low) = from-passed (s .args .log .now) (s .pre .0) (at .at) (at .inv .here) (omega arith) in
     let same = at .inv .outside .same-length in (
       s .pre .0,
       omega arith,
-      first-to (s .args .log .now) (s .args .w .now) (at .w) (at .at) (s .pre .0) (at .inv) (omega arith),
+      to-follows (s .args .log .now) (s .pre .0) (at .at) (at .inv .here) (omega arith),
       rw near (ap (λ (x : ℕ). linksAt + 8 * x) (c .before .number-of .ensures)),
       rw near low,
       omega arith,
@@ -66,7 +66,7 @@ loop-again c =
     let s = c .before .before .before .before .before .before .before .before .before .before in
     let at = c .before .before .before .before .before .before .before .loop in
     let group = c .before .before .mark-group .ensures in
-    marking-on (s .args .log .now) (s .args .w .now) (at .w) (at .at) (s .pre .0) (at .inv) (omega arith) (group .0) (group .1)
+    marking-on (s .pre .0) (at .inv) (omega arith) (group .0) (group .1)
 
 same-length : tie.Need-same-length Inv-loop μ-loop
 same-length c = omega arith
