@@ -122,7 +122,7 @@ row-joined {w} {w′} {i = i} s e base a k p q =
     let r : Joining w w w′ (base + 8 * a) (base + 8 * k) i = rw (p, q) at s in
     record { same-length = r .same-length; before = r .before; behind = λ j h. r .behind j (omega arith); joined = joined-bit r e }
 
--- a row by itself starts at word 0, whether it is joined into
+-- a row by itself, which starts at word 0: a row of a matrix is joined into it
 module _ {w v v′ : List ℕ} {row i : ℕ} (s : Joining w v v′ 0 row i) where
   pub adding-more : i < length v → Joining w v (set v′ i (bitOr (getD v′ i 0) (getD w (row + i) 0))) 0 row (i + 1)
   adding-more fits = let e : 0 + i ≡ i = omega arith in rw e at (joining-more s (getD w (row + i) 0) refl (omega arith))
@@ -130,7 +130,7 @@ module _ {w v v′ : List ℕ} {row i : ℕ} (s : Joining w v v′ 0 row i) wher
   pub row-added : i ≡ 8 → RowAdded w row v v′
   row-added e = record { same-length = s .same-length; joined = joined-bit s e }
 
--- or from
+-- or it is joined into a row of a matrix
 module _ {v w w′ : List ℕ} {row i : ℕ} (s : Joining v w w′ row 0 i) where
   pub gaining-more : row + i < length w → Joining v w (set w′ (row + i) (bitOr (getD w′ (row + i) 0) (getD v i 0))) row 0 (i + 1)
   gaining-more fits = let e : 0 + i ≡ i = omega arith in joining-more s (getD v i 0) (rw e refl) fits
