@@ -30,8 +30,14 @@ use Rattle.bits.specs.Bits.{bit, BitSet}
 use Rattle.bits.specs.Work.{linksAt, waysAt, Matrix, Outside, nextAt}
 use Rattle.bits.proofs.Rows.{bits-zero}
 use Rattle.log.specs.Log.{toBeforeLast, PassedLog}
-use Rattle.reach.specs.Reach.{Marked, MarkedBefore, GroupMarked, LinksMarked}
+use Rattle.reach.specs.Reach.{MarkedBefore, GroupMarked, LinksMarked}
 use Rattle.bits.proofs.Frames.{outside-none, outside-then, outside-wider, set-other, set-outside}
+
+-- the link from `a` to `b` is marked
+record Marked (w w′ : List ℕ) (a b : ℕ) : Type 0 where
+  outside : Outside linksAt waysAt w w′
+  here : bit w′ (linksAt + 8 * a) b ≡ 1
+  other : (x y : ℕ) → x < 256 → y < 256 → ((x ≡ a) × (y ≡ b) → ⊥) → bit w′ (linksAt + 8 * x) y ≡ bit w (linksAt + 8 * x) y
 
 marked : {w w′ : List ℕ} (a b : ℕ) → a < 256 → b < 256 → BitSet w w′ (linksAt + 8 * a) b → Marked w w′ a b
 marked a b ha hb s =

@@ -14,12 +14,6 @@ use Rattle.bits.specs.Work.{linksAt, waysAt, matrixWords, Matrix, Outside, next
 abbrev pub NoneMarked : List ℕ → Type 0
 NoneMarked w = (i : ℕ) → i < nextAt → getD w i 0 ≡ 0
 
--- the link from `a` to `b` is marked
-pub record Marked (w w′ : List ℕ) (a b : ℕ) : Type 0 where
-  pub outside : Outside linksAt waysAt w w′
-  pub here : bit w′ (linksAt + 8 * a) b ≡ 1
-  pub other : (x y : ℕ) → x < 256 → y < 256 → ((x ≡ a) × (y ≡ b) → ⊥) → bit w′ (linksAt + 8 * x) y ≡ bit w (linksAt + 8 * x) y
-
 -- the first matrix holds the links of the words of the log before place `p`
 abbrev pub MarkedBefore : List ℕ → ℕ → List ℕ → Type 0
 MarkedBefore l p w = Matrix linksAt w (λ a b. Mem (a, b) (linksBefore l p))
