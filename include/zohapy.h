@@ -1,4 +1,4 @@
-/* The sleeper report: the five services of the proved library, for C. Link build/libzohapy.a.
+/* The sleeper report: the six services of the proved library, for C. Link build/libzohapy.a.
  *
  * A log is an array of 32-bit words; a word's top 4 bits are its kind and its low 28 bits its number. The number of a to word,
  * of kind 3, is the later episode of a link in bits 0 to 15 and the pause between its two episodes, in minutes, in bits 16 to
@@ -16,7 +16,7 @@ extern "C" {
 #endif
 
 /* The version of the library. */
-#define ZOHAPY_VERSION "0.4.0"
+#define ZOHAPY_VERSION "0.5.0"
 
 /* The work words that a report or a copy needs. */
 #define ZOHAPY_WORK_WORDS 16384
@@ -34,12 +34,12 @@ typedef struct {
     uint32_t number; /* 0, or the refusal's number, 1 to 10 */
     size_t place;    /* the refusal's place, in words from 0; else 0 */
     size_t episodes; /* n, where number is 0; else 0 */
-    size_t links;    /* the count of to words, where number is 0; else 0 */
+    size_t links;    /* the count of to words, a repeated link counted each time, where number is 0; else 0 */
 } zohapy_read_answer;
 
 typedef struct {
     uint32_t number; /* 0, or the refusal's number, 1 to 13 */
-    size_t value;    /* the count of words written, where number is 0; else the refusal's place */
+    size_t value;    /* where number is 0 the count of words written, or of links; else the refusal's place */
 } zohapy_answer;
 
 typedef struct {
@@ -50,6 +50,10 @@ typedef struct {
 
 /* Reads a log: questions 1 to 10. Of a to word question 7 looks at the episode alone. */
 zohapy_read_answer zohapy_read(const uint32_t *log, size_t log_words);
+
+/* The link count of a log, as it is printed: the number of different links. A link is an ordered pair of episodes; its repeats and
+ * its pauses do not count. Questions 1 to 10 are asked first. */
+zohapy_answer zohapy_links(const uint32_t *log, size_t log_words);
 
 /* The report on a log: a smallest path cover and the right-most maximum antichain, of the same size. Pauses change nothing of
  * it. Refusals 1 to 12 change no word. After 0 the output begins with the report, after 13 with a loop of the log: a word of

@@ -1,4 +1,4 @@
-//! The sleeper report for Rust programs: the five services of the proved library, on lent buffers.
+//! The sleeper report for Rust programs: the six services of the proved library, on lent buffers.
 //!
 //! A log is a list of 32-bit words; a word's top 4 bits are its kind and its low 28 bits its number. The number of a to word
 //! holds an episode and a pause: [`links`] gives both for each link of a log. Each call ends, on any log and any buffers, with an
@@ -112,7 +112,7 @@ impl std::error::Error for Refusal {}
 pub struct Reading {
     /// n; the episodes are 0 to n - 1.
     pub episodes: usize,
-    /// The count of to words.
+    /// The count of to words, a repeated link counted each time; [`link_count`] counts different links.
     pub links: usize,
 }
 
@@ -166,6 +166,7 @@ mod library {
     // SAFETY: these are the functions of include/zohapy.h, with the same arguments and the same structures.
     unsafe extern "C" {
         pub fn zohapy_read(log: *const u32, log_words: usize) -> ReadAnswer;
+        pub fn zohapy_links(log: *const u32, log_words: usize) -> Answer;
         pub fn zohapy_report(
             log: *const u32,
             log_words: usize,
@@ -201,6 +202,24 @@ pub fn read(log: &[u32]) -> Result<Reading, Refusal> {
     match answer.number {
         0 => Ok(Reading { episodes: answer.episodes, links: answer.links }),
         number => Err(Refusal { number, place: answer.place }),
+    }
+}
+
+/// The link count of a log, as it is printed: the number of different links. A link is an ordered pair of episodes; its repeats and
+/// its pauses do not count. Questions 1 to 10 are asked first.
+///
+/// ```
+/// let log = [0x1000_0002, 0x2000_0000, 0x3000_0001, 0x3000_0001, 0xF000_0002]; // 0-1 twice
+/// assert_eq!(zohapy::link_count(&log)?, 1);
+/// assert_eq!(zohapy::read(&log)?.links, 2); // to words
+/// # Ok::<(), zohapy::Refusal>(())
+/// ```
+pub fn link_count(log: &[u32]) -> Result<usize, Refusal> {
+    // SAFETY: the pointer and the length are those of a slice, and the call reads only its words.
+    let answer = unsafe { library::zohapy_links(log.as_ptr(), log.len()) };
+    match answer.number {
+        0 => Ok(answer.value),
+        number => Err(Refusal { number, place: answer.value }),
     }
 }
 

@@ -2,14 +2,14 @@
 
 use std::fmt;
 
-use crate::{Outcome, Reading, Refusal, WORK_WORDS, number, read, report, report_words, thread};
+use crate::{Outcome, Refusal, WORK_WORDS, link_count, number, read, report, report_words, thread};
 
 /// The report on a log. It is displayed as the lines that the program prints.
 #[derive(Clone, Debug, PartialEq, Eq)]
 pub struct Report {
     /// How many episodes the log has.
     pub episodes: usize,
-    /// How many to words the log has.
+    /// How many different links the log has: the [`link_count`].
     pub links: usize,
     /// The fewest sleepers: how many threads there are, and how many members the apart set has.
     pub width: usize,
@@ -31,7 +31,8 @@ pub enum Failure {
 impl Report {
     /// The report on a log. The buffers have the words that the log needs, so refusals 11 and 12 do not occur.
     pub fn of(log: &[u32]) -> Result<Report, Failure> {
-        let Reading { episodes, links } = read(log)?;
+        let episodes = read(log)?.episodes;
+        let links = link_count(log)?;
         let mut out = vec![0; report_words(episodes)];
         match report(log, &mut out, &mut vec![0; WORK_WORDS]) {
             Outcome::Report(count) => {

@@ -3,3 +3,4 @@ pub mod Digits
 pub mod Rows
 pub mod Fill
 pub mod Frames
+pub mod Pairs

@@ -8,6 +8,7 @@ use Prim.Native.Nat.{ℕ, zero, suc, _<_, _≤_}
 use native.Mathlib.Omega.{arith}
 use lib.ListN.{length, getD}
 use Rattle.paths.specs.Graph.{Graph, Link, EndsBelow, SameLinks}
+use Rattle.paths.specs.Links.{linked, linkCount}
 use Rattle.paths.proofs.Numbers.{rising-equal}
 use Rattle.paths.proofs.Passing.{passing-rising}
 use Rattle.log.specs.Content.{Heard, Content, graph, HeardOf, LeastPause, SameContent, leastPause}
@@ -17,9 +18,9 @@ use Rattle.log.specs.declared.Ceilings.{Ceilings}
 use Rattle.log.proofs.Words.{number-lt}
 use Rattle.log.proofs.Pauses.{least-pause, link-heard, same-links, same-least, content-same, content-sym, content-trans}
 use Rattle.log.proofs.Laws.{words-small, few-episodes, few-words, graph-episodes, graph-count, links-below, content-fits}
-use Rattle.copying.specs.FairCopy.{linked, linkedTo, group, groups, groupLinks, copyWords, fairWords, Precedes, fairNeed}
+use Rattle.copying.specs.FairCopy.{linkedTo, group, groups, groupLinks, copyWords, fairWords, Precedes, fairNeed}
 use Rattle.copying.proofs.Linked.{linkedTo-mem, mem-linkedTo, group-same}
-use Rattle.copying.proofs.GroupLinks.{linksOf, group-links-mem, mem-group-links, group-links-nodup, group-links-rising, length-group-links, copy-words-fit}
+use Rattle.copying.proofs.GroupLinks.{linksOf, group-links-mem, mem-group-links, group-links-nodup, group-links-rising, length-group-links, group-links-count, copy-words-fit}
 use Rattle.copying.proofs.ReadBack.{Fits, paused, copy-episodes, copy-heard, copy-links, copy-passes}
 
 -- a copy depends only on the episodes, on the links between them and on their pauses
@@ -141,6 +142,13 @@ module _ (m : Ceilings) (l : List ℕ) (n t : ℕ) (e : questions m l ≡ given 
       let room : length (groupLinks (graphOf l) (graphOf l .n)) ≤ m .words = omega (arith, graph-count m l n t e, few-words m l n t e) in
       copy-passes m (leastPause (contentOf l)) (graphOf l) log-fits fit room
       ∙ ap (λ (k : ℕ). given (k, length (groupLinks (graphOf l) k))) (graph-episodes m l n t e)
+
+  -- that is one for each different link
+  pub copy-count : questions m (fairWords (contentOf l)) ≡ given (n, linkCount (graphOf l))
+  copy-count =
+      copy-read
+      ∙ ap (λ (k : ℕ). given (n, k))
+      (ap (λ (k : ℕ). length (groupLinks (graphOf l) k)) (sym (graph-episodes m l n t e)) ∙ group-links-count (graphOf l) (links-below m l n t e))
 
   -- it tells the same links with the same least pauses; so it has the same links
   pub copy-content : SameContent (contentOf l) (contentOf (fairWords (contentOf l)))

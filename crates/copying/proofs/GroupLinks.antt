@@ -27,9 +27,11 @@ use native.Mathlib.Decide.{ℕ-discrete}
 use native.Mathlib.Omega.{arith}
 use lib.ListN.{length, length-append, length-map}
 use Rattle.order.proofs.Lists.{nodup-cons, nodup-head, nodup-tail, nodup-append, nodup-le, chain-append}
-use Rattle.paths.specs.Graph.{Graph, Link, Rising}
+use Rattle.paths.specs.Graph.{Graph, Link, EndsBelow, Rising}
+use Rattle.paths.specs.Links.{linked, linkCount}
+use Rattle.paths.proofs.Links.{count-listed}
 use Rattle.paths.proofs.Passing.{passing-nodup, passing-rising}
-use Rattle.copying.specs.FairCopy.{linked, linkedTo, groups, groupLinks, copyWords, Precedes, fairNeed}
+use Rattle.copying.specs.FairCopy.{linkedTo, groups, groupLinks, copyWords, Precedes, fairNeed}
 use Rattle.copying.proofs.Linked.{linkedTo-mem, mem-linkedTo, length-group-le, length-copy}
 
 -- the links from `a` to the members of a list
@@ -103,6 +105,12 @@ module _ (g : Graph) where
   length-group-links k =
       nodup-le (×-discrete ℕ-discrete ℕ-discrete) (groupLinks g k) (g .links) (group-links-nodup k)
       (λ l m. group-links-mem k (l .0) (l .1) m .2)
+
+  -- where each link joins episodes they are the different links
+  pub group-links-count : EndsBelow g → length (groupLinks g (g .n)) ≡ linkCount g
+  group-links-count ends =
+      count-listed g (groupLinks g (g .n)) (group-links-nodup (g .n))
+      (λ a b. (λ m. group-links-mem (g .n) a b m .2, λ k. mem-group-links (g .n) a b (ends a b k .0) (ends a b k .1) k))
 
   -- each group has at most two words for each of its links
   pub length-groups : (pause : ℕ → ℕ → ℕ) (k : ℕ) → length (groups pause g k) ≤ 2 * length (groupLinks g k)

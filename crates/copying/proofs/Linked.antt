@@ -24,48 +24,12 @@ use lib.ListN.{length, length-append, length-map}
 use borrow.Author.Tests.{eqb-true, eq-eqb}
 use Rattle.order.specs.Order.{All}
 use Rattle.paths.specs.Graph.{Graph}
+use Rattle.paths.specs.Links.{linked}
+use Rattle.paths.proofs.Links.{linked-mem, mem-linked}
 use Rattle.paths.proofs.Passing.{passing-below, passing-test, test-passing}
 use Rattle.log.specs.Words.{word, toWord}
-use Rattle.copying.specs.FairCopy.{linked, linkedTo, group, groups, groupLinks, copyWords}
+use Rattle.copying.specs.FairCopy.{linkedTo, group, groups, groupLinks, copyWords}
 use Rattle.copying.specs.Copying.{groupLength}
-
--- what a test that is made of two tests says of them
-either : (x y : Bool) → x || y ≡ true → (x ≡ true) ⊎ (y ≡ true)
-either true y e = inl refl
-either false y e = inr e
-
-pub both : (x y : Bool) → x && y ≡ true → (x ≡ true) × (y ≡ true)
-both true y e = (refl, e)
-both false y e = absurd (true≢false (sym e))
-
--- `linked` tests whether the link is a member
-pub linked-mem : (a b : ℕ) (ls : List (ℕ × ℕ)) → linked a b ls ≡ true → Mem {A = ℕ × ℕ} (a, b) ls
-unfolding linked
-linked-mem a b [] e = absurd (true≢false (sym e))
-linked-mem a b (l ∷ ls) e =
-    ⊎-elim
-    (λ f.
-    let p = both (eqb a (l .0)) (eqb b (l .1)) f in
-    here (ap₂ (λ (x y : ℕ). (x, y)) (eqb-true a (l .0) (p .0)) (eqb-true b (l .1) (p .1))))
-    (λ f. there (linked-mem a b ls f))
-    (either (eqb a (l .0) && eqb b (l .1)) (linked a b ls) e)
-
-pub mem-linked : (a b : ℕ) (ls : List (ℕ × ℕ)) → Mem {A = ℕ × ℕ} (a, b) ls → linked a b ls ≡ true
-unfolding linked
-mem-linked a b [] m = absurd (not-nil m)
-mem-linked a b (l ∷ ls) m =
-    ⊎-elim
-    (λ e.
-    let from : a ≡ l .0 = ap (λ (v : ℕ × ℕ). v .0) e in
-    let to : b ≡ l .1 = ap (λ (v : ℕ × ℕ). v .1) e in
-    rw (eq-eqb a (l .0) from, eq-eqb b (l .1) to))
-    (λ n. rw (mem-linked a b ls n, or-true))
-    (mem-cases m)
-
-pub linked-append : (a b : ℕ) (xs ys : List (ℕ × ℕ)) → linked a b (xs ++ ys) ≡ linked a b xs || linked a b ys
-unfolding linked
-linked-append a b [] ys = refl
-linked-append a b (l ∷ xs) ys = rw (linked-append a b xs ys) (sym (or-assoc (eqb a (l .0) && eqb b (l .1)) (linked a b xs) (linked a b ys)))
 
 module _ (a : ℕ) (ls : List (ℕ × ℕ)) where
   -- its members are the episodes below `k` that `a` is linked to

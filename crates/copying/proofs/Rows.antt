@@ -12,6 +12,8 @@ use lib.Seq.{length-take-le, getD-take, getD-drop, getD-set-same, getD-set-other
 use borrow.Author.Tests.{ne-eqb}
 use Rattle.order.specs.Order.{All}
 use Rattle.paths.proofs.Passing.{passing-equal}
+use Rattle.paths.specs.Links.{linked}
+use Rattle.paths.proofs.Links.{linked-mem, mem-linked}
 use Rattle.log.specs.Words.{kind, toEpisode, toPause}
 use Rattle.log.specs.Content.{Heard, Content, joins, pausesOf, least, leastPause}
 use Rattle.log.specs.Log.{toBeforeLast, contentOf, graphOf, PassedLog}
@@ -21,7 +23,7 @@ use Rattle.log.proofs.Pauses.{pauses-append, pauses-one, pauses-none, pauses-he
 use Rattle.log.proofs.Laws.{graph-episodes, before-head, pass-to, heard-passed}
 use Rattle.log.proofs.Walk.{no-words, words-more, along, nearest-same, GroupHere, first-here, from-passed, to-fits, next-here}
 use Rattle.writing.specs.Layout.{BeginsWith}
-use Rattle.copying.specs.FairCopy.{linked, linkedTo, group}
+use Rattle.copying.specs.FairCopy.{linkedTo, group}
 use Rattle.copying.specs.Copying.{
   mark,
   lowered,
@@ -36,7 +38,7 @@ use Rattle.copying.specs.Copying.{
   pauseAt,
   GroupWritten,
 }
-use Rattle.copying.proofs.Linked.{linked-mem, mem-linked, linkedTo-mem, group-same}
+use Rattle.copying.proofs.Linked.{linkedTo-mem, group-same}
 
 -- the mark of a link that is heard once more, with the pause `q`
 mark-more : (ps : List ℕ) (q : ℕ) → mark (ps ++ q ∷ []) ≡ lowered (mark ps) q

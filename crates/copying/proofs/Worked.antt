@@ -5,8 +5,9 @@ use mathlib.Core.List.{[], _∷_}
 use Prim.Native.Nat.{ℕ}
 use native.Mathlib.Decide.{ℕ-discrete}
 use Rattle.paths.specs.Passing.{passing}
+use Rattle.paths.specs.Links.{linked}
 use Rattle.log.specs.Content.{Heard, pausesOf, least}
-use Rattle.copying.specs.FairCopy.{linked, group, groups, groupLinks, copyWords, fairWords}
+use Rattle.copying.specs.FairCopy.{group, groups, groupLinks, copyWords, fairWords}
 
 abbrev heard : ℕ → ℕ → ℕ → Heard
 heard a b p = record { from = a; to = b; pause = p }

@@ -1,20 +1,14 @@
 -- The fair copy of a log: each link once, in order, with its least pause.
 use mathlib.Core.Path.{_≡_}
 use mathlib.Core.Logic.{_⊎_}
-use mathlib.Core.Bool.{Bool, false, _&&_, _||_}
 use mathlib.Core.List.{List, [], _∷_, _++_, map}
 use Prim.Native.Nat.{ℕ, zero, suc, _+_, _*_, _<_}
-use lib.Dec.{eqb}
 use lib.ListN.{length}
 use Rattle.paths.specs.Graph.{Graph}
+use Rattle.paths.specs.Links.{linked}
 use Rattle.paths.specs.Passing.{passing}
 use Rattle.log.specs.Words.{word, toWord}
 use Rattle.log.specs.Content.{Content, joins, leastPause}
-
--- whether the link from `a` to `b` is among the links
-unfoldable pub linked : ℕ → ℕ → List (ℕ × ℕ) → Bool
-linked a b [] = false
-linked a b (l ∷ ls) = (eqb a (l .0) && eqb b (l .1)) || linked a b ls
 
 -- the episodes below `k` that `a` is linked to, rising
 abbrev pub linkedTo : ℕ → List (ℕ × ℕ) → ℕ → List ℕ

@@ -1,6 +1,6 @@
 -- The questions word by word: what an answer says of the word, and what it takes to be given one.
 use mathlib.Core.Path.{_≡_, refl, _∙_, ap, sym}
-use mathlib.Core.Logic.{_⊎_, inl, inr}
+use mathlib.Core.Logic.{_⊎_, inl, inr, _↔_}
 use mathlib.Core.Bool.{Bool, true, false, not, _&&_, true≢false}
 use mathlib.Core.List.{List}
 use Prim.Native.Nat.{ℕ, _+_, _-_, _<_, _≤_}
@@ -12,10 +12,27 @@ use lib.ListN.{length, getD, drop, length-drop}
 use lib.Seq.{getD-drop}
 use borrow.Author.Tests.{lt-ltb, le-ltb, lt-leb, le-leb, leb-true, ltb-true, eqb-true, eqb-false, eq-eqb, ne-eqb}
 use Rattle.log.specs.Words.{kind, number, toEpisode, toPause}
-use Rattle.log.specs.Answer.{Answer, given, refused, question}
+use Rattle.log.specs.Answer.{Answer, given, refused, question, andThen}
 use Rattle.log.specs.Log.{toBeforeLast, headWord, groupWord, endWord}
 use Rattle.log.specs.declared.Ceilings.{Ceilings}
 use Rattle.log.proofs.Words.{figure-from, figure-to, minutes-from, minutes-to}
+
+-- an answer is not both given and refused
+pub not-both : {A : Type 0} (x : Answer A) (a : A) (q p : ℕ) → x ≡ given a → x ≡ refused q p → ⊥
+not-both x a q p e f = let none : _≡_ {A = ℕ} 0 1 = cc in omega arith
+
+-- what is given behind an answer is given exactly where that is, and refused as that is
+module _ {A B : Type 0} where
+  pub then-given : (x : Answer A) (b c : B) → andThen x (given b) ≡ given c → ((a : A) × (x ≡ given a)) × (b ≡ c)
+  then-given (given a) b c e = ((a, refl), cc e)
+  then-given (refused q p) b c e = absurd (not-both (given c) c q p refl (sym e))
+
+  pub given-then : (x : Answer A) (a : A) (b c : B) → x ≡ given a → b ≡ c → andThen x (given b) ≡ given c
+  given-then x a b c e f = rw (e, f)
+
+  pub then-refused : (x : Answer A) (b : B) (q p : ℕ) → (andThen x (given b) ≡ refused q p) ↔ (x ≡ refused q p)
+  then-refused (given a) b q p = (λ e. absurd (not-both (given b) b q p refl e), λ e. absurd (not-both (given a) a q p refl e))
+  then-refused (refused j x) b q p = (λ e. cc e, λ e. cc e)
 
 -- a question that is answered no, and one that is answered yes
 pub denied : {A : Type 0} (k p : ℕ) (b : Bool) (next : Answer A) → b ≡ false → refused k p ≡ question k p b next

@@ -9,15 +9,15 @@ use native.Mathlib.Omega.{arith}
 use lib.Dec.{ltb}
 use lib.ListN.{length, getD, drop}
 use borrow.Author.Tests.{lt-ltb, ltb-true}
-use Rattle.log.specs.Words.{toEpisode, toPause}
-use Rattle.log.specs.Answer.{given, question, wordAnswer}
+use Rattle.log.specs.Words.{kind, number, toEpisode, toPause}
+use Rattle.log.specs.Answer.{Answer, given, question, wordAnswer}
 use Rattle.log.specs.Log.{toBeforeLast, groupWord}
 use Rattle.log.specs.Places.{onwardsAt, Stopped}
 use Rattle.log.specs.declared.LogWord.{LogWord}
 use Rattle.log.specs.declared.LogWord.the-variants.{Taken, GivenUp}
 use Rattle.log.specs.declared.Ceilings.{Ceilings}
-use Rattle.log.proofs.Asked.{behind, to-there, there-to, group-to, group-taken, ToTaken}
-use Rattle.log.proofs.Places.{stop-last, stop-refused, step-from, step-to}
+use Rattle.log.proofs.Asked.{behind, asked, to-there, there-to, group-to, group-taken, from-given, ToTaken}
+use Rattle.log.proofs.Places.{word-between, stop-last, stop-refused, step-from, step-to}
 
 -- at `p` a group begins, or the last word stands
 pub record AtGroup (m : Ceilings) (l : List ℕ) (n p t : ℕ) : Type 0 where
@@ -55,7 +55,12 @@ module _ (m : Ceilings) (l : List ℕ) (n p t : ℕ) where
       }
 
   pub at-last : AtGroup m l n p t → length l ≤ p + 1 → Stopped m l n p t
-  at-last g h = record { within = g .within; answer = sym (g .same) ∙ stop-last m l n p (ltb 1 p) t h }
+  at-last g h =
+      record {
+        within = g .within;
+        answer = sym (g .same) ∙ stop-last m l n p (ltb 1 p) t h;
+        ended = inl (omega (arith, g .within));
+      }
 
   module _ (r : LogWord) (k x : ℕ) where
     pub from-taken : AtGroup m l n p t → p + 1 < length l → wordAnswer r ≡ groupWord m n p (getD l p 0) (drop (p + 1) l) (ltb 1 p) t
@@ -75,10 +80,29 @@ module _ (m : Ceilings) (l : List ℕ) (n p t : ℕ) where
         (λ taken. absurd (no-to g h taken))
         (group-taken m n p (getD l p 0) (drop (p + 1) l) (ltb 1 p) t (k, x, q) passed)
 
+    -- it gives its episode
+    pub from-episode : AtGroup m l n p t → p + 1 < length l → wordAnswer r ≡ groupWord m n p (getD l p 0) (drop (p + 1) l) (ltb 1 p) t
+        → (q : ℕ) → r ≡ Taken k x q → (kind (getD l p 0) ≡ 2) × (x ≡ number (getD l p 0)) × (x < n)
+    from-episode g h e q is =
+        let passed = sym e ∙ ap wordAnswer is in
+        ⊎-elim
+        (λ taken.
+        let same : _≡_ {A = ℕ × ℕ × ℕ} (k, x, q) (2, number (getD l p 0), 0) =
+        cc (passed, from-given m n p (getD l p 0) (drop (p + 1) l) (ltb 1 p) t taken) in
+        let episode : x ≡ number (getD l p 0) = ap (λ (v : ℕ × ℕ × ℕ). v .1) same in
+        (taken .is-from, episode, omega (arith, taken .below)))
+        (λ taken. absurd (no-to g h taken))
+        (group-taken m n p (getD l p 0) (drop (p + 1) l) (ltb 1 p) t (k, x, q) passed)
+
     pub from-given-up : AtGroup m l n p t → p + 1 < length l → wordAnswer r ≡ groupWord m n p (getD l p 0) (drop (p + 1) l) (ltb 1 p) t
         → r ≡ GivenUp k x → Stopped m l n p t
     from-given-up g h e is =
-        record { within = g .within; answer = sym (g .same) ∙ stop-refused m l n p (ltb 1 p) t k x h (sym e ∙ ap wordAnswer is) }
+        let given-up = sym e ∙ ap wordAnswer is in
+        record {
+          within = g .within;
+          answer = sym (g .same) ∙ stop-refused m l n p (ltb 1 p) t k x h given-up;
+          ended = inr (k, x, word-between m l n p (ltb 1 p) t h ∙ given-up);
+        }
 
     -- of a to word behind its group's from word, 7 and 8 are left to ask
     module _ (g : InGroup m l n p t) (is-to : toBeforeLast l p ≡ true)
@@ -98,11 +122,21 @@ module _ (m : Ceilings) (l : List ℕ) (n p t : ℕ) where
             same = sym (step-to m l n p true t (k, x, q) (there .0) (sym all-asked ∙ ap wordAnswer is) (there .1)) ∙ g .same;
           }
 
+      pub to-episode : (q : ℕ) → r ≡ Taken k x q → (x ≡ toEpisode (getD l p 0)) × (x < n)
+      to-episode q is =
+          let next : Answer (ℕ × ℕ × ℕ) = question 8 p (ltb t (m .words)) (given (3, toEpisode (getD l p 0), toPause (getD l p 0))) in
+          let seven = asked 7 p (ltb (toEpisode (getD l p 0)) n) next (k, x, q) (sym e ∙ ap wordAnswer is) in
+          let eight = asked 8 p (ltb t (m .words)) (given (3, toEpisode (getD l p 0), toPause (getD l p 0))) (k, x, q) (seven .1) in
+          let same : _≡_ {A = ℕ × ℕ × ℕ} (k, x, q) (3, toEpisode (getD l p 0), toPause (getD l p 0)) = cc (eight .1) in
+          let episode : x ≡ toEpisode (getD l p 0) = ap (λ (v : ℕ × ℕ × ℕ). v .1) same in
+          (episode, omega (arith, ltb-true (toEpisode (getD l p 0)) n (seven .0)))
+
       pub to-given-up : r ≡ GivenUp k x → Stopped m l n p t
       to-given-up is =
           let there = to-there l p is-to in
+          let given-up = sym all-asked ∙ ap wordAnswer is in
           record {
             within = g .within;
-            answer =
-                rw (lt-ltb 1 p (g .behind-from)) (sym (g .same) ∙ stop-refused m l n p true t k x (there .0) (sym all-asked ∙ ap wordAnswer is));
+            answer = rw (lt-ltb 1 p (g .behind-from)) (sym (g .same) ∙ stop-refused m l n p true t k x (there .0) given-up);
+            ended = inr (k, x, rw (lt-ltb 1 p (g .behind-from)) (word-between m l n p true t (there .0) ∙ given-up));
           }

@@ -59,7 +59,7 @@ pub fn to_word_of(w: u32) -> ToWord
 }
 
 // Questions 2 and 3, of the head.
-fn head_word(most: Ceilings, w: u32) -> LogWord
+pub fn head_word(most: Ceilings, w: u32) -> LogWord
     ensures { λ r. ⌜ wordAnswer r ≡ headWord most w ⌝ }
 {
     let kind = kind_of(w);
@@ -112,7 +112,7 @@ fn from_word(log: &[u32], n: usize, at: usize, earlier: usize) -> LogWord
 }
 
 // Questions 7 and 8, of a to word at `at` that has a from word before it.
-fn to_word(most: Ceilings, n: usize, at: usize, w: u32, count: usize) -> LogWord
+pub fn to_word(most: Ceilings, n: usize, at: usize, w: u32, count: usize) -> LogWord
     ensures { λ r. ⌜ wordAnswer r ≡ question 7 at (ltb (toEpisode w) n) (question 8 at (ltb count (most .words)) (given (3, toEpisode w, toPause w))) ⌝ }
 {
     let ceiling = most.words;
@@ -128,7 +128,14 @@ fn to_word(most: Ceilings, n: usize, at: usize, w: u32, count: usize) -> LogWord
 }
 
 // Questions 4 to 8, of the word at `at`, which is neither the head nor the last.
-fn group_word(most: Ceilings, log: &[u32], n: usize, at: usize, from: bool, count: usize) -> LogWord
+pub fn group_word(
+    most: Ceilings,
+    log: &[u32],
+    n: usize,
+    at: usize,
+    from: bool,
+    count: usize,
+) -> LogWord
     requires { ⌜ at + 1 < length (now log) ⌝ }
     ensures { λ r. ⌜ wordAnswer r ≡ groupWord most n at (getD (now (log .entry)) at 0) (drop (at + 1) (now (log .entry))) from count ⌝ }
 {
@@ -162,7 +169,14 @@ fn end_word(w: u32, at: usize, count: usize) -> LogWord
 }
 
 // Questions 4 to 10, of the word at `at` behind the head.
-fn log_word(most: Ceilings, log: &[u32], n: usize, at: usize, from: bool, count: usize) -> LogWord
+pub fn log_word(
+    most: Ceilings,
+    log: &[u32],
+    n: usize,
+    at: usize,
+    from: bool,
+    count: usize,
+) -> LogWord
     requires { ⌜ at < length (now log) ⌝ }
     ensures { λ r. ⌜ wordAnswer r ≡ logWordAt most (now (log .entry)) n at from count ⌝ }
 {

@@ -9,6 +9,7 @@ pub mod Furthest
 pub mod Fits
 pub mod Loops
 pub mod Same
+pub mod Links
 pub mod Trimming
 pub mod Checker
 pub mod Worked

@@ -27,6 +27,7 @@ use Rattle.paths.specs.Graph.{
   Loop,
   totalSteps,
 }
+use Rattle.paths.specs.Links.{linkCount}
 use Rattle.paths.specs.Trimmed.{SameWays, Stays, Trimmed}
 use Rattle.paths.proofs.Ways as Ways
 use Rattle.paths.proofs.Threads as Threads
@@ -36,6 +37,7 @@ use Rattle.paths.proofs.Furthest as Furthest-one
 use Rattle.paths.proofs.Fits as Fits
 use Rattle.paths.proofs.Loops as Loops
 use Rattle.paths.proofs.Same as Same
+use Rattle.paths.proofs.Links as Links
 use Rattle.paths.proofs.Trimming as Trimming
 
 -- 1. Weak duality: an apart set has at most as many members as any cover has threads, in a graph with loops too.
@@ -194,3 +196,27 @@ trimmed-least ends same a b = Trimming.stays-link ends same
 -- So graphs with the same ways, trimmed, have the same links.
 pub ways-trimmed : {g h g′ h′ : Graph} → EndsBelow g → EndsBelow h → SameWays g h → Trimmed g g′ → Trimmed h h′ → SameLinks g′ h′
 ways-trimmed = Trimming.ways-trimmed
+
+-- 12. The link count is the length of every list without repeats that has exactly the graph's links.
+pub count-listed : (g : Graph) (ls : List (ℕ × ℕ)) → List·Nodup ls → ((a b : ℕ) → Mem {A = ℕ × ℕ} (a, b) ls ↔ Link g a b)
+    → length ls ≡ linkCount g
+count-listed = Links.count-listed
+
+-- Such a list is there.
+pub count-list : (g : Graph)
+    → (ls : List (ℕ × ℕ)) × List·Nodup ls × ((a b : ℕ) → Mem {A = ℕ × ℕ} (a, b) ls ↔ Link g a b) × (length ls ≡ linkCount g)
+count-list = Links.count-list
+
+-- It is at most the number of links with their repeats, and as much exactly when none is repeated.
+pub count-few : (g : Graph) → linkCount g ≤ length (g .links)
+count-few = Links.count-few
+
+pub count-once : (g : Graph) → (linkCount g ≡ length (g .links)) ↔ List·Nodup (g .links)
+count-once = Links.count-once
+
+-- A graph that has each link of another has at least its count, so graphs with the same links have the same count.
+pub count-more : (g h : Graph) → ((a b : ℕ) → Link g a b → Link h a b) → linkCount g ≤ linkCount h
+count-more = Links.count-more
+
+pub count-same : {g h : Graph} → SameLinks g h → linkCount g ≡ linkCount h
+count-same = Links.count-same

@@ -9,6 +9,8 @@ use lib.Dec.{T, ltb, ltb→lt}
 use lib.ListN.{length}
 use Rattle.order.specs.Order.{All, Chain, more}
 use Rattle.paths.specs.Graph.{Graph, Link, one, step, Thread, Apart, Cover, Smallest, Furthest, Loop}
+use Rattle.paths.specs.Links.{linkCount, distinct}
+use Rattle.paths.specs.Links as links
 use Rattle.paths.specs.Trimmed.{Stays, Trimmed}
 use Rattle.paths.proofs.Furthest.{furthest-unique}
 use Rattle.paths.proofs.Checker.{
@@ -232,3 +234,13 @@ longer-paths-count = (
     next c (there (here e)) = let none : _≡_ {A = ℕ} 0 1 = ap first e in absurd (omega arith)
     next c (there (there (here e))) = let none : _≡_ {A = ℕ} 0 2 = ap first e in absurd (omega arith)
     next c (there (there (there (here e)))) = inr (ap second e)
+
+-- link counts: of no links; of a link given twice, at once and after another one; of two links that differ in their direction alone; and of a link
+-- from an episode to itself, given twice
+pub worked-counts : (linkCount (graph 2 []) ≡ 0)
+    × (linkCount (graph 2 ((0, 1) ∷ (0, 1) ∷ [])) ≡ 1)
+    × (linkCount (graph 3 ((0, 1) ∷ (1, 2) ∷ (0, 1) ∷ [])) ≡ 2)
+    × (linkCount (graph 2 ((0, 1) ∷ (1, 0) ∷ [])) ≡ 2)
+    × (linkCount (graph 1 ((0, 0) ∷ (0, 0) ∷ [])) ≡ 1)
+unfolding distinct links.linked
+worked-counts = (refl, refl, refl, refl, refl)

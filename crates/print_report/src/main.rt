@@ -3,6 +3,7 @@ mod show;
 mod stdin;
 
 use input::Taken;
+use link_count::LinkCount;
 use log::Reading;
 use report::Outcome;
 
@@ -15,7 +16,7 @@ fn first(words: &[u32], count: usize) -> &[u32] {
     }
 }
 
-// Prints the report on a log that passes, with `n` episodes and `links` to words, or its loop.
+// Prints the report on a log that passes, with `n` episodes and `links` different links, or its loop.
 fn report_on(log: &[u32], n: usize, links: usize) {
     let mut out = [0u32; 10502];
     let mut work = [0u32; 16384];
@@ -26,10 +27,18 @@ fn report_on(log: &[u32], n: usize, links: usize) {
     }
 }
 
+// Counts the different links of a log with `n` episodes, and prints the rest of the answer.
+fn count(log: &[u32], n: usize) {
+    match link_count::link_count(log) {
+        LinkCount::Counted(links) => report_on(log, n, links),
+        LinkCount::Refused(number, place) => show::refusal(number, place),
+    }
+}
+
 // Asks questions 1 to 10 of a log, and prints the rest of the answer.
 fn read(log: &[u32]) {
     match log::read(log) {
-        Reading::Passed(n, links) => report_on(log, n, links),
+        Reading::Passed(n, _) => count(log, n),
         Reading::Refused(number, place) => show::refusal(number, place),
     }
 }

@@ -51,7 +51,7 @@ fn line(name: &[u8], x: usize) {
     end_line();
 }
 
-// A report on a log with `n` episodes and `links` to words.
+// A report on a log with `n` episodes and `links` different links.
 pub fn report(n: usize, links: usize, report: &[u32]) {
     line(b"episodes", n);
     line(b"links", links);

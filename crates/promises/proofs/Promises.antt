@@ -4,12 +4,13 @@
 -- scope's numbers. The report's words are the first `c` of the output, `take c o′`, where `c` is the count that the outcome gives.
 use mathlib.Core.Path.{_≡_, sym, ap, subst, _∙_}
 use mathlib.Core.Logic.{_↔_}
-use mathlib.Core.List.{List, [], _++_, map, List·Nodup, IsChain}
+use mathlib.Core.List.{List, [], _++_, map, List·Memᴰ as Mem, List·Nodup, IsChain}
 use Prim.Native.Nat.{ℕ, _≤_, _<_}
 use native.Mathlib.Omega.{arith}
 use lib.ListN.{length, take, drop, getD}
 use Rattle.order.specs.Order.{All}
 use Rattle.paths.specs.Graph.{Graph, Link, SameLinks, Way, Cover, Apart, Smallest, Largest, Width, Furthest, Rising, Loop}
+use Rattle.paths.specs.Links.{linkCount}
 use Rattle.paths.specs.Trimmed.{SameWays, Stays}
 use Rattle.paths.proofs.Theorems as graphs
 use Rattle.log.specs.Words.{kind, number, word}
@@ -19,9 +20,12 @@ use Rattle.log.specs.Log.{questions, contentOf, graphOf}
 use Rattle.log.specs.Earlier.{Older}
 use Rattle.log.specs.Earlier as earlier
 use Rattle.log.specs.declared.Ceilings.{Ceilings}
-use Rattle.log.proofs.Laws.{links-below}
+use Rattle.log.proofs.Asked.{then-given, given-then, then-refused}
+use Rattle.log.proofs.Laws.{links-below, graph-count}
 use Rattle.log.proofs.Pauses.{same-links}
 use Rattle.log.proofs.Older.{questions-older, graph-older, no-pause}
+use Rattle.link_count.specs.Counted.{countAnswer, countAsked}
+use Rattle.link_count.specs.declared.LinkCount.{LinkCount}
 use Rattle.writing.specs.Layout.{reportWords, loopWords, reportNeed, apartOf, threadsOf, BeginsWith}
 use Rattle.parsing.specs.Whole.{IsReport, Whole, ThreadNumber, ThreadSteps}
 use Rattle.parsing.proofs.Wholes.{report-read}
@@ -432,3 +436,49 @@ module _ (l : List ℕ) (older : Older l) where
 
   pub older-trimmed : trimmedWords (graphOf l) ≡ earlier-copy.fairWords (trimmed (earlier.graphOf l))
   older-trimmed = copy-earlier (trimmed (graphOf l)) ∙ ap (λ (g : Graph). earlier-copy.fairWords (trimmed g)) (graph-older l older)
+
+-- 10. Of every link count call: its contract is that its answer, `countAnswer r`, is that of questions 1 to 10 and then the link count of the log's
+-- graph, `countAsked m l`.
+module _ (m : Ceilings) (l : List ℕ) (r : LinkCount) (answer : countAnswer r ≡ countAsked m l) where
+  -- A count is given exactly when questions 1 to 10 are answered yes, loops or none, and then it is the log's.
+  pub count-exactly : (k : ℕ) → (countAnswer r ≡ given k) ↔ (((n : ℕ) × (t : ℕ) × (questions m l ≡ given (n, t))) × (linkCount (graphOf l) ≡ k))
+  count-exactly k = (
+    λ e. let (((n, t), read), same) = then-given (questions m l) (linkCount (graphOf l)) k (sym answer ∙ e) in ((n, t, read), same),
+    λ ((n, t, read), same). answer ∙ given-then (questions m l) (n, t) (linkCount (graphOf l)) k read same,
+  )
+
+  -- It is refused exactly when they refuse, with that number and place.
+  pub count-refused-exactly : (q p : ℕ) → (countAnswer r ≡ refused q p) ↔ (questions m l ≡ refused q p)
+  count-refused-exactly q p =
+      let same = then-refused (questions m l) (linkCount (graphOf l)) q p in
+      (λ e. same .0 (sym answer ∙ e), λ e. answer ∙ same .1 e)
+
+module _ (m : Ceilings) (l : List ℕ) (r : LinkCount) (answer : countAnswer r ≡ countAsked m l) (k : ℕ) (e : countAnswer r ≡ given k) where
+  -- what the proofs below cite
+  counted : linkCount (graphOf l) ≡ k
+  counted = count-exactly m l r answer k .0 e .1
+
+  -- The count is the length of every list without repeats that has exactly the log's links.
+  pub count-listed : (ls : List (ℕ × ℕ)) → List·Nodup ls → ((a b : ℕ) → Mem {A = ℕ × ℕ} (a, b) ls ↔ Link (graphOf l) a b) → length ls ≡ k
+  count-listed ls once same = graphs.count-listed (graphOf l) ls once same ∙ counted
+
+  -- It is at most the count of to words that the reading gives, and equal to it exactly when no link is given twice.
+  pub count-words : (n t : ℕ) → questions m l ≡ given (n, t) → (k ≤ t) × ((k ≡ t) ↔ List·Nodup (graphOf l .links))
+  count-words n t read =
+      let words = graph-count m l n t read in
+      let once = graphs.count-once (graphOf l) in (
+        omega (arith, counted, words, graphs.count-few (graphOf l)),
+        (λ same. once .0 (counted ∙ same ∙ sym words), λ nodup. sym counted ∙ once .1 nodup ∙ words),
+      )
+
+  -- It is the count of to words of the fair copy, whichever call gives that.
+  pub count-fair : (m₂ : Ceilings) (o w o′ w′ : List ℕ) (r₂ : CopyOutcome) → CopyLeft m₂ l o w o′ w′ r₂ → (c : ℕ) → copyAnswer r₂ ≡ given c
+      → questions m₂ (take c o′) ≡ given (graphOf l .n, k)
+  count-fair m₂ o w o′ w′ r₂ left c e₂ =
+      let copy = copies.given-left m₂ l o w o′ w′ r₂ c left e₂ in
+      rw (copy .words, ← counted) (fair.copy-count m₂ l _ _ (copy .read))
+
+  -- Another log with the same links, at any ceilings, has the same count.
+  pub counts-equal : (m₂ : Ceilings) (l₂ : List ℕ) (r₂ : LinkCount) → countAnswer r₂ ≡ countAsked m₂ l₂ → (k₂ : ℕ) → countAnswer r₂ ≡ given k₂
+      → SameLinks (graphOf l) (graphOf l₂) → k ≡ k₂
+  counts-equal m₂ l₂ r₂ answer₂ k₂ e₂ same = sym counted ∙ graphs.count-same same ∙ count-exactly m₂ l₂ r₂ answer₂ k₂ .0 e₂ .1

@@ -4,10 +4,7 @@ use mathlib.Core.Logic.{_⊎_, inl, inr, ⊎-elim}
 use Prim.Native.Nat.{ℕ, _≤_}
 use native.Mathlib.Omega.{arith}
 use Rattle.log.specs.Answer.{Answer, given, refused}
-
--- an answer is not both given and refused
-pub not-both : {A : Type 0} (x : Answer A) (a : A) (q p : ℕ) → x ≡ given a → x ≡ refused q p → ⊥
-not-both x a q p e f = let none : _≡_ {A = ℕ} 0 1 = cc in omega arith
+use Rattle.log.proofs.Asked.{not-both}
 
 -- The answer `a` of a call whose questions 1 to 12 answer `asks`. Either it is refused as they are, and `Same` holds; or they are answered yes, with
 -- `counts`, and the call shows a loop or gives what the service gives.

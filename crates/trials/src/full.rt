@@ -1,6 +1,7 @@
 // Logs of full size: 200 episodes, and 4,096 to words or one more.
 ghost use Prim.Native.Nat.{_≤_, _<_};
 use crate::show::Service;
+use crate::show::links;
 use crate::show::outcome;
 use crate::show::reading;
 use crate::words::END;
@@ -12,6 +13,7 @@ use crate::words::TO;
 fn first(name: &[u8], words: &[u32], n: usize) {
     if n <= words.len() {
         reading(name, &words[0..n]);
+        links(name, &words[0..n]);
         outcome(Service::Report, name, &words[0..n]);
         outcome(Service::FairCopy, name, &words[0..n]);
         outcome(Service::TrimmedCopy, name, &words[0..n]);

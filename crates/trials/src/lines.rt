@@ -99,6 +99,15 @@ fn reading(text: &[u8], words: &[u32]) -> bool {
     true
 }
 
+// The trial of a link count: `text` is NAME.
+fn links(text: &[u8], words: &[u32]) -> bool {
+    if text.len() == 0 {
+        return false;
+    }
+    show::links(text, words);
+    true
+}
+
 // The trial of one thread: `text` is I NAME.
 fn thread(text: &[u8], words: &[u32]) -> bool {
     let Number::Of(i) = decimal(first(text)) else {
@@ -145,6 +154,9 @@ fn call(service: Service, text: &[u8], words: &[u32]) -> bool {
 fn choose(word: &[u8], text: &[u8], words: &[u32]) -> bool {
     if same(word, b"read") {
         return reading(text, words);
+    }
+    if same(word, b"links") {
+        return links(text, words);
     }
     if same(word, b"report") {
         return call(Service::Report, text, words);

@@ -3,6 +3,7 @@ ghost use Prim.Native.Nat.{_≤_};
 ghost use lib.ListN.{length};
 use fair_copy::CopyOutcome;
 use libc::STDOUT_FILENO;
+use link_count::LinkCount;
 use log::Reading;
 use report::Outcome;
 use trimmed_copy::TrimOutcome;
@@ -168,6 +169,16 @@ fn write_start(call: &[u8], name: &[u8]) {
     write(call);
     write(name);
     write(b": ");
+}
+
+// The link count, as a line.
+pub fn links(name: &[u8], words: &[u32]) {
+    write_start(b"links of ", name);
+    match link_count::link_count(words) {
+        LinkCount::Counted(links) => write_figure(b"links ", links),
+        LinkCount::Refused(number, place) => write_refusal(number, place),
+    }
+    end_line();
 }
 
 // What asking for thread `i` of any words gives, on the line that `name` begins.

@@ -11,6 +11,8 @@ use lib.Dec.{eqb}
 use lib.ListN.{length, getD, set, length-append}
 use borrow.Author.Tests.{eqb-true, eq-eqb, ne-eqb}
 use Rattle.paths.specs.Graph.{Graph, Link}
+use Rattle.paths.specs.Links.{linked}
+use Rattle.paths.proofs.Links.{both}
 use Rattle.paths.specs.Passing.{passing}
 use Rattle.paths.specs.Trimmed.{Stays}
 use Rattle.paths.proofs.Numbers.{rising-equal}
@@ -23,8 +25,8 @@ use Rattle.bits.specs.Work.{linksAt}
 use Rattle.bits.proofs.Digits.{digit-lt, Rest, rest-here, rest-below, rest-least, rest-none, rest-end}
 use Rattle.bits.proofs.Rows.{bit-lt, bit-digit, fresh, digit-fresh}
 use Rattle.writing.proofs.Listing.{Listing, listing-more, listing-skip}
-use Rattle.copying.specs.FairCopy.{linked, linkedTo, group}
-use Rattle.copying.proofs.Linked.{both, length-group, linkedTo-mem, mem-linkedTo}
+use Rattle.copying.specs.FairCopy.{linkedTo, group}
+use Rattle.copying.proofs.Linked.{length-group, linkedTo-mem, mem-linkedTo}
 use Rattle.trimming.specs.TrimmedCopy.{trimmed}
 use Rattle.trimming.specs.Trimming.{Held, HoldsImplied, keptAt, keptTo, toUnpaused, TellsDigits}
 use Rattle.trimming.proofs.Kept.{trimmed-is}

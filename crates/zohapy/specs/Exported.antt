@@ -17,7 +17,7 @@ abbrev pub readNumbers : Answer (ℕ × ℕ) → ℕ × ℕ × ℕ × ℕ
 readNumbers (given (n, t)) = (0, 0, n, t)
 readNumbers (refused q p) = (q, p, 0, 0)
 
--- A report or a copy in two numbers: 0 and the count of its words, or a refusal's number and place.
+-- A report, a copy or a link count in two numbers: 0 and the count of its words or of the links, or a refusal's number and place.
 abbrev pub numbers : Answer ℕ → ℕ × ℕ
 numbers (given c) = (0, c)
 numbers (refused q p) = (q, p)

@@ -1,8 +1,10 @@
-// The five services for C and Rust: exported functions, which answer in plain numbers.
+// The six services for C and Rust: exported functions, which answer in plain numbers.
 ghost use mathlib.Core.Path.{_≡_};
 ghost use Rattle.log.specs.Log.{service, questions};
-ghost use Rattle.zohapy.specs.Exported.{readNumbers, Reports, Copies, Trims, Thread};
+ghost use Rattle.link_count.specs.Counted.{countAsked};
+ghost use Rattle.zohapy.specs.Exported.{readNumbers, numbers, Reports, Copies, Trims, Thread};
 use fair_copy::CopyOutcome;
+use link_count::LinkCount;
 use log::Reading;
 use report::Outcome;
 use trimmed_copy::TrimOutcome;
@@ -19,7 +21,7 @@ pub struct ReadAnswer {
     pub links: usize,
 }
 
-// A report, a loop or a copy: number 0 with the count of words, or a refusal's number and place.
+// A report, a loop, a copy or a link count: number 0 with the count of words or of links, or a refusal's number and place.
 #[repr(C)]
 pub struct Answer {
     pub number: u32,
@@ -51,6 +53,23 @@ pub extern "C" fn zohapy_read(log: &[u32]) -> ReadAnswer
             place,
             episodes: 0,
             links: 0,
+        },
+    }
+}
+
+// The number of different links of a log.
+#[no_mangle]
+pub extern "C" fn zohapy_links(log: &[u32]) -> Answer
+    ensures { λ r. ⌜ numbers (countAsked service (now (log .entry))) ≡ (r .number, r .value) ⌝ }
+{
+    match link_count::link_count(log) {
+        LinkCount::Counted(links) => Answer {
+            number: 0,
+            value: links,
+        },
+        LinkCount::Refused(refusal, place) => Answer {
+            number: refusal,
+            value: place,
         },
     }
 }

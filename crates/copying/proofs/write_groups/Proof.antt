@@ -7,9 +7,10 @@ use mathlib.Core.List.{List}
 use Prim.Native.Nat.{ℕ, _-_, _/_, _%_, _≤_, _<_, _^_}
 use native.Mathlib.Omega.{arith}
 use lib.ListN.{length}
+use Rattle.paths.specs.Links.{linked}
 use Rattle.log.specs.Content.{leastPause}
 use Rattle.log.specs.Log.{contentOf, graphOf}
-use Rattle.copying.specs.FairCopy.{linked, linkedTo}
+use Rattle.copying.specs.FairCopy.{linkedTo}
 use Rattle.copying.specs.Copying.{BlockMarks, GroupWritten}
 use Rattle.paths.proofs.Passing.{length-passing}
 use Rattle.copying.proofs.Rows.{passed-few, next-block}

@@ -7,8 +7,9 @@ use Prim.Native.Nat.{ℕ, _-_, _≤_, _<_, _^_}
 use native.Mathlib.Omega.{arith}
 use lib.ListN.{length}
 use Rattle.paths.specs.Graph.{Graph}
+use Rattle.paths.specs.Links.{linked}
 use Rattle.paths.proofs.Passing.{length-passing}
-use Rattle.copying.specs.FairCopy.{linked, linkedTo}
+use Rattle.copying.specs.FairCopy.{linkedTo}
 use Rattle.copying.specs.Copying.{GroupWritten}
 use Rattle.copying.proofs.GroupLinks.{length-group-links}
 use Rattle.copying.proofs.Copies.{

@@ -1,0 +1,2 @@
+-- What a link count call gives.
+pub mod Counted
