@@ -1,4 +1,4 @@
-/* The five services from C, on a log of 5 episodes with the links 0-1 and 2-3 and other small logs, and their refusals. Prints
+/* The six services from C, on a log of 5 episodes with the links 0-1 and 2-3 and other small logs, and their refusals. Prints
  * what examples/expected.txt holds; exits with 1 where a refusal has another number than is meant here. */
 #include <inttypes.h>
 #include <stdio.h>
@@ -59,7 +59,7 @@ static void print_words(const char *name, const uint32_t *words, size_t count) {
     printf("\n");
 }
 
-/* Prints a line for each link of a log that has passed the reading, with its pause. */
+/* Prints a line for each to word of a log that has passed the reading: its link and its pause. */
 static void print_links(const uint32_t *log, size_t log_words) {
     uint32_t from = 0;
     for (size_t i = 1; i + 1 < log_words; i++) {
@@ -81,13 +81,14 @@ static void print_refusal(uint32_t meant, uint32_t number, size_t place) {
 
 int main(void) {
     zohapy_read_answer reading = zohapy_read(whole, WORDS(whole));
+    zohapy_answer links = zohapy_links(whole, WORDS(whole));
     zohapy_answer report = zohapy_report(whole, WORDS(whole), out, WORDS(out), work, WORDS(work));
-    if (reading.number != 0 || report.number != 0) {
+    if (reading.number != 0 || links.number != 0 || report.number != 0) {
         fprintf(stderr, "a report was meant\n");
         return 1;
     }
     size_t width = number_of(out[0]);
-    printf("episodes %zu\nlinks %zu\nwidth %zu\n", reading.episodes, reading.links, width);
+    printf("episodes %zu\nlinks %zu\nwidth %zu\n", reading.episodes, links.value, width);
     print_numbers("apart", out + 1, width);
     for (size_t i = 0; i < width; i++) {
         zohapy_thread_answer thread = zohapy_thread(out, report.value, i);
@@ -102,14 +103,16 @@ int main(void) {
     }
     print_words("copy", copied, copy.value);
 
-    /* Of a link that is given twice the fair copy has the least pause, and its to words rise by episode. */
+    /* A link that is given twice counts once. Of its pauses the fair copy has the least, and its to words rise by episode. */
     reading = zohapy_read(paused, WORDS(paused));
+    links = zohapy_links(paused, WORDS(paused));
     copy = zohapy_fair_copy(paused, WORDS(paused), copied, WORDS(copied), work, WORDS(work));
-    if (reading.number != 0 || copy.number != 0) {
+    if (reading.number != 0 || links.number != 0 || copy.number != 0) {
         fprintf(stderr, "a copy was meant\n");
         return 1;
     }
     print_links(paused, WORDS(paused));
+    printf("to words %zu\nlinks %zu\n", reading.links, links.value);
     print_words("copy", copied, copy.value);
 
     /* The trimmed copy leaves out 0-2. */

@@ -39,7 +39,7 @@ typedef struct {
 
 typedef struct {
     uint32_t number; /* 0, or the refusal's number, 1 to 13 */
-    size_t value;    /* where number is 0 the count of words written, or of links; else the refusal's place */
+    size_t value;    /* the count of words written, or the link count, where number is 0; else the refusal's place */
 } zohapy_answer;
 
 typedef struct {
@@ -51,8 +51,8 @@ typedef struct {
 /* Reads a log: questions 1 to 10. Of a to word question 7 looks at the episode alone. */
 zohapy_read_answer zohapy_read(const uint32_t *log, size_t log_words);
 
-/* The link count of a log, as it is printed: the number of different links. A link is an ordered pair of episodes; its repeats and
- * its pauses do not count. Questions 1 to 10 are asked first. */
+/* The link count of a log, as it is printed: how many different links it has, a link being an ordered pair of episodes. Repeats
+ * and pauses do not matter. It asks questions 1 to 10, so a log with a loop has a link count too. */
 zohapy_answer zohapy_links(const uint32_t *log, size_t log_words);
 
 /* The report on a log: a smallest path cover and the right-most maximum antichain, of the same size. Pauses change nothing of

@@ -1,4 +1,4 @@
-//! With the name of a file: the report on the log whose bytes it holds. Without: the five services on a log of 5 episodes with
+//! With the name of a file: the report on the log whose bytes it holds. Without: the six services on a log of 5 episodes with
 //! the links 0-1 and 2-3 and other small logs, and their refusals; it prints what examples/expected.txt holds.
 
 use std::error::Error;
@@ -52,10 +52,11 @@ fn main() -> Result<(), Box<dyn Error>> {
     let mut work = vec![0; WORK_WORDS];
     let count = zohapy::fair_copy(&WHOLE, &mut out, &mut work)?;
     print_words("copy", &out[..count]);
-    // Of a link that is given twice the fair copy has the least pause, and its to words rise by episode.
+    // A link that is given twice counts once. Of its pauses the fair copy has the least, and its to words rise by episode.
     for Link { from, to, pause } in zohapy::links(&PAUSED)? {
         println!("link {from}-{to} pause {pause}");
     }
+    println!("to words {}\nlinks {}", zohapy::read(&PAUSED)?.links, zohapy::link_count(&PAUSED)?);
     let count = zohapy::fair_copy(&PAUSED, &mut out, &mut work)?;
     print_words("copy", &out[..count]);
     // The trimmed copy leaves out 0-2.

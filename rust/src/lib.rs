@@ -39,9 +39,9 @@ pub const fn report_words(episodes: usize) -> usize {
     2 + 2 * episodes + (episodes + 1) * (episodes + 1) / 4
 }
 
-/// The output words that a fair or a trimmed copy of a log with `links` to words needs.
-pub const fn copy_words(links: usize) -> usize {
-    2 + 2 * links
+/// The output words that a fair or a trimmed copy of a log with `to_words` to words needs: as [`read`] counts them, repeats too.
+pub const fn copy_words(to_words: usize) -> usize {
+    2 + 2 * to_words
 }
 
 /// The kind of a word: its top 4 bits.
@@ -205,13 +205,13 @@ pub fn read(log: &[u32]) -> Result<Reading, Refusal> {
     }
 }
 
-/// The link count of a log, as it is printed: the number of different links. A link is an ordered pair of episodes; its repeats and
-/// its pauses do not count. Questions 1 to 10 are asked first.
+/// The link count of a log, as it is printed: how many different links it has, a link being an ordered pair of episodes. Repeats
+/// and pauses do not matter. It asks questions 1 to 10, so a log with a loop has a link count too.
 ///
 /// ```
 /// let log = [0x1000_0002, 0x2000_0000, 0x3000_0001, 0x3000_0001, 0xF000_0002]; // 0-1 twice
 /// assert_eq!(zohapy::link_count(&log)?, 1);
-/// assert_eq!(zohapy::read(&log)?.links, 2); // to words
+/// assert_eq!(zohapy::read(&log)?.links, 2); // its to words
 /// # Ok::<(), zohapy::Refusal>(())
 /// ```
 pub fn link_count(log: &[u32]) -> Result<usize, Refusal> {
@@ -223,7 +223,7 @@ pub fn link_count(log: &[u32]) -> Result<usize, Refusal> {
     }
 }
 
-/// The links of a log in the order in which it gives them, repeats included; or its refusal by [`read`].
+/// The links of a log in the order in which it gives them, one for each to word, repeats too; or its refusal by [`read`].
 ///
 /// ```
 /// use zohapy::{Link, links};

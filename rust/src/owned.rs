@@ -9,7 +9,7 @@ use crate::{Outcome, Refusal, WORK_WORDS, link_count, number, read, report, repo
 pub struct Report {
     /// How many episodes the log has.
     pub episodes: usize,
-    /// How many different links the log has: the [`link_count`].
+    /// How many different links the log has: its [`link_count`].
     pub links: usize,
     /// The fewest sleepers: how many threads there are, and how many members the apart set has.
     pub width: usize,

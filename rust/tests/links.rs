@@ -1,10 +1,10 @@
-//! The figures of a to word, the links of a log, and what each service makes of pauses.
+//! The figures of a to word, the links of a log and how many there are, and what each service makes of pauses.
 
-use std::collections::BTreeMap;
+use std::collections::{BTreeMap, BTreeSet};
 
 use zohapy::{
-    Link, Outcome, Reading, Refusal, Report, TrimOutcome, WORK_WORDS, copy_words, episode, fair_copy, kind, links, number, pause,
-    read, report, report_words, to_word, trimmed_copy,
+    Failure, Link, Outcome, Reading, Refusal, Report, TrimOutcome, WORK_WORDS, copy_words, episode, fair_copy, kind, link_count,
+    links, number, pause, read, report, report_words, to_word, trimmed_copy,
 };
 
 /// 5 episodes; 0-2 after 20 minutes, 0-1 after 90, 3-4 without a pause, and 0-1 again, after 45.
@@ -103,6 +103,87 @@ fn a_refused_log_has_no_links() {
 }
 
 #[test]
+fn a_log_without_links_has_link_count_0() {
+    for n in [0, 1, 200] {
+        assert_eq!(link_count(&log(n, &[])), Ok(0));
+    }
+}
+
+#[test]
+fn the_link_count_is_that_of_different_pairs() {
+    let rows = [
+        (&[(0, 1, 0)][..], 1),
+        (&[(0, 1, 0), (0, 1, 0)], 1),
+        (&[(0, 1, 0), (1, 0, 0)], 2),
+        (&[(0, 0, 0), (0, 0, 0)], 1),
+        (&[(0, 1, 5), (0, 1, 9)], 1),
+        (&[(0, 1, 5), (0, 2, 5), (0, 1, 4095)], 2),
+        (&[(0, 1, 0), (2, 1, 0), (0, 1, 0)], 2),
+        (&[(0, 1, 0), (1, 2, 0), (0, 2, 0)], 3),
+        (&[(0, 1, 1); 4096], 1),
+    ];
+    for (given, count) in rows {
+        let log = log(3, given);
+        assert_eq!(link_count(&log), Ok(count), "{given:?}");
+        assert_eq!(read(&log).map(|reading| reading.links), Ok(given.len()), "{given:?}");
+    }
+    assert_eq!(link_count(&PAUSED), Ok(3));
+}
+
+#[test]
+fn groups_do_not_change_the_link_count() {
+    // 0-1 twice in one group; in two groups that follow each other; in two with another between them.
+    assert_eq!(link_count(&[0x1000_0002, 0x2000_0000, 0x3000_0001, 0x3000_0001, 0xF000_0002]), Ok(1));
+    assert_eq!(link_count(&[0x1000_0002, 0x2000_0000, 0x3000_0001, 0x2000_0000, 0x3000_0001, 0xF000_0002]), Ok(1));
+    let parted =
+        [0x1000_0003, 0x2000_0000, 0x3000_0001, 0x3000_0002, 0x2000_0001, 0x3000_0002, 0x2000_0000, 0x302D_0001, 0xF000_0004];
+    assert_eq!(link_count(&parted), Ok(3));
+}
+
+#[test]
+fn of_4096_different_links_each_counts() {
+    // 64 episodes, each linked to each; the first of 200 linked to all; the last in the same way; and the corners, each twice.
+    assert_eq!(link_count(&log(64, &(0..4096).map(|i| (i / 64, i % 64, 0)).collect::<Vec<_>>())), Ok(4096));
+    assert_eq!(link_count(&log(200, &(0..4096).map(|i| (i / 200, i % 200, i % 4)).collect::<Vec<_>>())), Ok(4096));
+    assert_eq!(link_count(&log(200, &(0..4096).map(|i| (199 - i / 200, 199 - i % 200, 4095)).collect::<Vec<_>>())), Ok(4096));
+    assert_eq!(link_count(&log(200, &[(0, 0, 0), (0, 199, 0), (199, 0, 0), (199, 199, 0)].repeat(2))), Ok(4));
+}
+
+#[test]
+fn a_log_with_a_loop_is_counted() {
+    for (given, count) in [(&[(0, 0, 0)][..], 1), (&[(0, 1, 7), (1, 0, 0), (0, 1, 0)], 2)] {
+        let log = log(2, given);
+        assert!(matches!(Report::of(&log), Err(Failure::Loop(_))));
+        assert_eq!(link_count(&log), Ok(count));
+    }
+}
+
+#[test]
+fn a_report_has_the_link_count() {
+    let twice = log(2, &[(0, 1, 0), (0, 1, 0)]);
+    let report = Report::of(&twice).expect("the log has a report");
+    assert_eq!(report.links, 1);
+    assert_eq!(report.to_string().lines().nth(1), Some("links 1"));
+    assert_eq!(read(&twice), Ok(Reading { episodes: 2, links: 2 }));
+}
+
+#[test]
+fn the_link_count_is_that_of_a_set_and_of_the_fair_copy() {
+    let mut random = random();
+    for round in 0..300 {
+        let n = [1, 3, 20, 200][round % 4];
+        let count = if round < 8 { 4096 } else { random(60) };
+        let given: Vec<_> = (0..count).map(|_| (random(n), random(n), random(3))).collect();
+        let log = log(n, &given);
+        let different = given.iter().map(|link| (link.0, link.1)).collect::<BTreeSet<_>>().len();
+        assert_eq!(link_count(&log), Ok(different));
+        let copy = copied(&log);
+        assert_eq!(read(&copy).map(|reading| reading.links), Ok(different));
+        assert_eq!(link_count(&copy), Ok(different));
+    }
+}
+
+#[test]
 fn logs_without_pauses_read_as_before() {
     let whole = [0x1000_0005, 0x2000_0000, 0x3000_0001, 0x2000_0002, 0x3000_0003, 0xF000_0002];
     let expected = [(0, 1), (2, 3)].map(|(from, to)| Link { from, to, pause: 0 });
@@ -144,7 +225,7 @@ fn pauses_change_no_report_and_no_loop() {
         assert_eq!(words(&log(n, &paused)), words(&log(n, &plain)));
     }
     let Report { episodes, links, width, apart, .. } = Report::of(&PAUSED).expect("the log has a report");
-    assert_eq!((episodes, links, width, &apart[..]), (5, 4, 3, &[1, 2, 4][..]));
+    assert_eq!((episodes, links, width, &apart[..]), (5, 3, 3, &[1, 2, 4][..]));
 }
 
 #[test]

@@ -42,7 +42,7 @@ fn other_small_logs() {
     assert_eq!(report(0, &[]).to_string(), "episodes 0\nlinks 0\nwidth 0\napart\n");
     assert_eq!(report(1, &[]).to_string(), "episodes 1\nlinks 0\nwidth 1\napart 0\nthread 0\n");
     assert_eq!(report(3, &[(0, 1), (1, 2), (0, 2)]).to_string(), "episodes 3\nlinks 3\nwidth 1\napart 2\nthread 0 1 2\n");
-    assert_eq!(report(2, &[(0, 1), (0, 1)]).to_string(), "episodes 2\nlinks 2\nwidth 1\napart 1\nthread 0 1\n");
+    assert_eq!(report(2, &[(0, 1), (0, 1)]).to_string(), "episodes 2\nlinks 1\nwidth 1\napart 1\nthread 0 1\n");
     let diamond = report(4, &[(0, 1), (0, 2), (1, 3), (2, 3)]);
     assert_eq!((diamond.width, &diamond.apart[..]), (2, &[1, 2][..]));
 }

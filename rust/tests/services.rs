@@ -1,7 +1,8 @@
-//! The five services on lent buffers: the small logs worked through, every refusal, and what is left in the buffers.
+//! The six services on lent buffers: the small logs worked through, every refusal, and what is left in the buffers.
 
 use zohapy::{
-    Outcome, Reading, Refusal, TrimOutcome, WORK_WORDS, copy_words, fair_copy, read, report, report_words, thread, trimmed_copy,
+    Outcome, Reading, Refusal, TrimOutcome, WORK_WORDS, copy_words, fair_copy, link_count, read, report, report_words, thread,
+    trimmed_copy,
 };
 
 /// The whole example and its report.
@@ -94,8 +95,9 @@ fn trim_refusal(log: &[u32], out_words: usize, work_words: usize) -> Refusal {
 }
 
 #[test]
-fn the_whole_example_is_read_reported_and_copied() {
+fn the_whole_example_is_read_counted_reported_and_copied() {
     assert_eq!(read(&WHOLE), Ok(Reading { episodes: 5, links: 2 }));
+    assert_eq!(link_count(&WHOLE), Ok(2));
     assert_eq!(reported(&WHOLE), (Outcome::Report(13), WHOLE_REPORT.to_vec()));
     let (mut out, mut work) = (vec![OLD; copy_words(2) + 1], vec![OLD; WORK_WORDS + 1]);
     assert_eq!(fair_copy(&WHOLE, &mut out, &mut work), Ok(6));
@@ -145,6 +147,7 @@ fn each_question_of_the_reading_has_its_refusal() {
     for (log, number, place) in rows {
         let refusal = Refusal { number, place };
         assert_eq!(read(log), Err(refusal), "{log:08X?}");
+        assert_eq!(link_count(log), Err(refusal), "{log:08X?}");
         assert_eq!(report_refusal(log, 0, 0), refusal, "{log:08X?}");
         assert_eq!(copy_refusal(log, 0, 0), refusal, "{log:08X?}");
         assert_eq!(trim_refusal(log, 0, 0), refusal, "{log:08X?}");
@@ -157,6 +160,8 @@ fn two_hundred_episodes_and_4096_to_words_pass_and_no_more() {
     assert_eq!(read(&log(201, &[])), Err(Refusal { number: 3, place: 0 }));
     assert_eq!(read(&log(2, &[(0, 1); 4096])), Ok(Reading { episodes: 2, links: 4096 }));
     assert_eq!(read(&log(2, &[(0, 1); 4097])), Err(Refusal { number: 8, place: 8194 }));
+    assert_eq!(link_count(&log(201, &[])), Err(Refusal { number: 3, place: 0 }));
+    assert_eq!(link_count(&log(2, &[(0, 1); 4097])), Err(Refusal { number: 8, place: 8194 }));
 }
 
 #[test]
