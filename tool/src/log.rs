@@ -1,5 +1,5 @@
 //! A log as its episodes and links, and its text form: a line `episodes N`, then a line `A-B` or `A-B M` for each link, M being
-//! its pause in minutes.
+//! its pause in minutes. A link that is given again is kept again.
 
 use std::fmt;
 
@@ -8,7 +8,7 @@ use zohapy::{Link, Refusal, links, number, to_word};
 /// The numbers that a word has room for are below this.
 const NUMBERS: u32 = 1 << 28;
 
-/// A log: how many episodes it has, and its links in order.
+/// A log: how many episodes it has, and its links in order, repeats too.
 #[derive(Clone, Debug, PartialEq, Eq)]
 pub struct Log {
     pub episodes: u32,
@@ -38,7 +38,7 @@ impl fmt::Display for TextError {
             Expected::Link => {
                 write!(f, "a link A-B or A-B M, with A below {NUMBERS}, B below 65536 and its pause of M minutes below 4096")
             }
-            Expected::NoMoreLinks => write!(f, "no more links, of which there can be {}", NUMBERS - 1),
+            Expected::NoMoreLinks => write!(f, "no more links, of which there can be {}, repeats too", NUMBERS - 1),
         }
     }
 }

@@ -28,10 +28,11 @@ usage: zohapy-tool COMMAND [FILE]
 
 Without FILE, or where it is -, standard input is read. The answer goes to standard output.
 
-The text form has a line `episodes N`, then a line for each link: `A-B`, or `A-B M` with its pause of M minutes. Blank lines and
-lines that start with # are passed over. `bytes` does not ask whether the log would be accepted. `text` asks questions 1 to 10, and
-`picture` also shows a loop. The trimmed copy has only those links A-B for which no other path leads from A to B, without pauses.
-A log with a loop has none: `trim` refuses it and prints the loop too.
+The text form has a line `episodes N`, then a line for each link, again where it is given again: `A-B`, or `A-B M` with its pause of
+M minutes. Blank lines and lines that start with # are passed over. `bytes` does not ask whether the log would be accepted. `text`
+asks questions 1 to 10, and `picture` also shows a loop. The picture's heading counts each link once. The trimmed copy has only those
+links A-B for which no other path leads from A to B, without pauses. A log with a loop has none: `trim` refuses it and prints the
+loop too.
 
 exit status: 0; 1 where the log is refused, with `refused N at P` on standard error; 2 on any other trouble.
 ";
@@ -165,6 +166,17 @@ mod tests {
         assert_eq!(text(&mut &made[..]), Ok(given.to_vec()));
         let made = bytes(&mut &b"episodes 5\n0-1 0\n2-3 0\n"[..]).expect("a text form");
         assert_eq!(text(&mut &made[..]), Ok(b"episodes 5\n0-1\n2-3\n".to_vec()));
+    }
+
+    #[test]
+    fn a_repeated_link_stands_twice_in_the_text_and_counts_once_in_a_picture() {
+        for given in [&b"episodes 2\n0-1\n0-1\n"[..], b"episodes 2\n0-1 45\n0-1 40\n"] {
+            let made = bytes(&mut { given }).expect("a text form");
+            assert_eq!(text(&mut &made[..]), Ok(given.to_vec()));
+            let svg = String::from_utf8(picture(&mut &made[..]).expect("the log has a report")).expect("text");
+            assert_eq!(svg.matches("Sleeper report: 2 episodes, 1 link, width 1<").count(), 2, "the title and the heading");
+            assert!(svg.contains("\nlinks 1\n") && !svg.contains("2 links"));
+        }
     }
 
     #[test]

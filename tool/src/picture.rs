@@ -85,7 +85,7 @@ pub fn of_loop(log: &Log, episodes: &[u32]) -> String {
     picture.finished()
 }
 
-/// The links of a log without their pauses.
+/// The links of a log without their pauses, repeats too.
 fn pairs(log: &Log) -> impl Iterator<Item = (u32, u32)> {
     log.links.iter().map(|link| (link.from, link.to))
 }
