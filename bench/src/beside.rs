@@ -17,9 +17,9 @@ struct Call<'a> {
     log: &'a [u32],
 }
 
-/// Each service on each log.
-fn calls<'a>(logs: &'a [(&'static str, Vec<u32>)]) -> Vec<Call<'a>> {
-    let services = 0..SERVICES.len();
+/// Each service that both builds have on each log.
+fn calls<'a>([old, new]: &[Build; 2], logs: &'a [(&'static str, Vec<u32>)]) -> Vec<Call<'a>> {
+    let services = 0..old.len().min(new.len());
     logs.iter().flat_map(|(key, log)| services.clone().map(move |service| Call { service, key, log })).collect()
 }
 
@@ -76,7 +76,7 @@ fn print_row(&Call { service, key, .. }: &Call, times: &[[f64; 2]]) {
 pub fn print(paths: &[&str]) {
     let pairs: Vec<[Build; 2]> = paths.chunks(2).map(|pair| [builds::open(pair[0]), builds::open(pair[1])]).collect();
     let logs = shapes::in_groups();
-    let calls = calls(&logs);
+    let calls = calls(&pairs[0], &logs);
     for pair in &pairs {
         assert!(builds::are_two(pair), "the older build is the newer one");
         calls.iter().for_each(|call| check(pair, call));
@@ -95,7 +95,7 @@ pub fn call(library: &str, service: &str, key: &str) -> Option<()> {
     let service = SERVICES.iter().position(|&name| name == service)?;
     let (_, log) = shapes::in_groups().into_iter().find(|log| log.0 == key)?;
     let [mut out, mut work] = buffers();
-    black_box(builds::open(library)[service].call(black_box(&log), &mut out, &mut work));
+    black_box(builds::open(library).get(service)?.call(black_box(&log), &mut out, &mut work));
     Some(())
 }
 
@@ -120,8 +120,18 @@ mod tests {
 
     /// Whether the check stops where the newer build's service is `OUT`, `WORK`, `VALUE` and the older one's 1, 2, 3.
     fn stops<const OUT: u32, const WORK: u32, const VALUE: usize>() -> bool {
-        let pair = [[Function::Lending(lending::<1, 2, 3>); 4], [Function::Lending(lending::<OUT, WORK, VALUE>); 4]];
-        std::panic::catch_unwind(|| check(&pair, &Call { service: 1, key: "", log: &[] })).is_err()
+        let pair = [vec![Function::Lending(lending::<1, 2, 3>)], vec![Function::Lending(lending::<OUT, WORK, VALUE>)]];
+        std::panic::catch_unwind(|| check(&pair, &Call { service: 0, key: "", log: &[] })).is_err()
+    }
+
+    #[test]
+    fn a_service_that_one_build_lacks_is_left_out() {
+        let [more, fewer] = [5, 4].map(|count| vec![Function::Lending(lending::<1, 2, 3>); count]);
+        let logs = [("one", vec![]), ("other", vec![])];
+        for pair in [[more.clone(), fewer.clone()], [fewer, more]] {
+            let calls = calls(&pair, &logs);
+            assert_eq!(calls.iter().map(|call| call.service).collect::<Vec<_>>(), [0, 1, 2, 3, 0, 1, 2, 3]);
+        }
     }
 
     #[test]

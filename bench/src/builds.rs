@@ -21,6 +21,7 @@ pub struct Answer {
 pub enum Function {
     Reading(unsafe extern "C" fn(*const u32, usize) -> ReadAnswer),
     Lending(unsafe extern "C" fn(*const u32, usize, *mut u32, usize, *mut u32, usize) -> Answer),
+    Counting(unsafe extern "C" fn(*const u32, usize) -> Answer),
 }
 
 impl Function {
@@ -38,6 +39,11 @@ impl Function {
                     unsafe { lending(log.as_ptr(), log.len(), out.as_mut_ptr(), out.len(), work.as_mut_ptr(), work.len()) };
                 [answer.number as usize, answer.value, 0, 0]
             }
+            Function::Counting(count) => {
+                // SAFETY: the pointer and the length are those of a slice.
+                let answer = unsafe { count(log.as_ptr(), log.len()) };
+                [answer.number as usize, answer.value, 0, 0]
+            }
         }
     }
 
@@ -45,26 +51,29 @@ impl Function {
         match self {
             Function::Reading(read) => read as usize,
             Function::Lending(lending) => lending as usize,
+            Function::Counting(count) => count as usize,
         }
     }
 }
 
 /// The services that are measured, as commands name them.
-pub const SERVICES: [&str; 4] = ["read", "report", "fair-copy", "trimmed-copy"];
+pub const SERVICES: [&str; 5] = ["read", "report", "fair-copy", "trimmed-copy", "links"];
 
-/// The functions of a build, in this order.
-pub type Build = [Function; 4];
+/// The functions of a build, in this order. Before version 0.5.0 there was no link count, and such a build has one fewer.
+pub type Build = Vec<Function>;
 
 fn functions(path: &str) -> Result<Build, String> {
     let object = Object::open(path)?;
     // SAFETY: these are the types that the header gives the functions.
     unsafe {
-        Ok([
+        let mut build = vec![
             Function::Reading(object.function(c"zohapy_read")?),
             Function::Lending(object.function(c"zohapy_report")?),
             Function::Lending(object.function(c"zohapy_fair_copy")?),
             Function::Lending(object.function(c"zohapy_trimmed_copy")?),
-        ])
+        ];
+        build.extend(object.function(c"zohapy_links").map(Function::Counting));
+        Ok(build)
     }
 }
 

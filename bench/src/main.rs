@@ -42,8 +42,10 @@ fn call(program: &str, log: &[u32]) -> Option<()> {
         "report" => drop(black_box(zohapy::report(black_box(log), &mut out, &mut work))),
         "fair-copy" => drop(black_box(zohapy::fair_copy(black_box(log), &mut out, &mut work))),
         "trimmed-copy" => drop(black_box(zohapy::trimmed_copy(black_box(log), &mut out, &mut work))),
+        "links" => drop(black_box(zohapy::link_count(black_box(log)))),
         "plain-report" => drop(black_box(plain::report(black_box(log), &mut out, &mut work))),
         "plain-trimmed-copy" => drop(black_box(plain::trimmed_copy(black_box(log), &mut out, &mut work))),
+        "plain-links" => drop(black_box(plain::link_count(black_box(log)))),
         _ => return None,
     }
     Some(())
@@ -66,9 +68,9 @@ fn main() {
     let words: Vec<&str> = words.iter().map(String::as_str).collect();
     if run(&words).is_none() {
         eprintln!("measurements times [ROUNDS] | measurements call PROGRAM LOG");
-        eprintln!("PROGRAM: read report fair-copy trimmed-copy plain-report plain-trimmed-copy");
+        eprintln!("PROGRAM: read report fair-copy trimmed-copy links plain-report plain-trimmed-copy plain-links");
         eprintln!("measurements beside OLD NEW [OLD NEW ..] | measurements called LIBRARY SERVICE LOG");
-        eprintln!("SERVICE: read report fair-copy trimmed-copy");
+        eprintln!("SERVICE: read report fair-copy trimmed-copy links");
         std::process::exit(2);
     }
 }

@@ -1,4 +1,4 @@
-//! The same report and the same trimmed copy by a plain program: a closure of bit sets, and Hopcroft-Karp matching for the
+//! The same report, trimmed copy and link count by a plain program: bit sets, their closure, and Hopcroft-Karp matching for the
 //! report. The library is measured beside it.
 
 use crate::shapes::{EPISODES, WORDS};
@@ -358,4 +358,12 @@ pub fn report(log: &[u32], out: &mut [u32], work: &mut [u32]) -> Result<usize, R
 #[inline(never)]
 pub fn trimmed_copy(log: &[u32], out: &mut [u32], work: &mut [u32]) -> Result<usize, Refusal> {
     answer(log, out, work, |log| copy_words(log.links), write_trimmed)
+}
+
+/// The link count, or a refusal 1 to 10.
+#[inline(never)]
+pub fn link_count(log: &[u32]) -> Result<usize, Refusal> {
+    let mut links = [[0; 4]; EPISODES];
+    let n = read(log, &mut links)?.episodes;
+    Ok(links[..n].iter().flatten().map(|word| word.count_ones() as usize).sum())
 }

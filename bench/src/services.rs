@@ -3,7 +3,7 @@
 use crate::plain;
 use zohapy::{Outcome, Reading, Refusal, TrimOutcome, copy_words, report_words};
 
-/// The count of words written, or the refusal; after 13 the output begins with a loop.
+/// The count of words written, or the link count; or the refusal. After 13 the output begins with a loop.
 pub type Answer = Result<usize, Refusal>;
 
 /// A call on a log, an output and work words.
@@ -14,13 +14,30 @@ pub struct Service {
     pub calls: [Call; 2],
     /// The output words that question 11 asks for.
     pub needed: fn(Reading) -> usize,
-    /// Whether every word written is fixed but for those of a loop.
-    pub fixed: bool,
+    /// What it writes.
+    pub written: Written,
 }
 
-pub const REPORT: Service = Service { calls: [report, plain::report], needed: |log| report_words(log.episodes), fixed: false };
+/// The words that a service writes.
+#[derive(Clone, Copy, PartialEq, Eq)]
+pub enum Written {
+    /// Not every word is fixed.
+    Free,
+    /// Every word is fixed but for those of a loop.
+    Fixed,
+    /// None: nothing is lent.
+    Nothing,
+}
+
+pub const REPORT: Service =
+    Service { calls: [report, plain::report], needed: |log| report_words(log.episodes), written: Written::Free };
 pub const TRIMMED_COPY: Service =
-    Service { calls: [trimmed_copy, plain::trimmed_copy], needed: |log| copy_words(log.links), fixed: true };
+    Service { calls: [trimmed_copy, plain::trimmed_copy], needed: |log| copy_words(log.links), written: Written::Fixed };
+pub const LINK_COUNT: Service = Service {
+    calls: [|log, _, _| zohapy::link_count(log), |log, _, _| plain::link_count(log)],
+    needed: |_| 0,
+    written: Written::Nothing,
+};
 
 fn report(log: &[u32], out: &mut [u32], work: &mut [u32]) -> Answer {
     match zohapy::report(log, out, work) {

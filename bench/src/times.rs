@@ -2,7 +2,7 @@
 //! changes from round to round.
 
 use crate::checks;
-use crate::services::{REPORT, Service, TRIMMED_COPY};
+use crate::services::{LINK_COUNT, REPORT, Service, TRIMMED_COPY};
 use crate::shapes::{self, EPISODES, WORDS, log_of, random};
 use std::hint::black_box;
 use std::time::Instant;
@@ -15,6 +15,8 @@ struct Row {
     width: usize,
     /// How many links the trimmed copy keeps.
     kept: usize,
+    /// How many different links there are.
+    links: usize,
     log: Vec<u32>,
 }
 
@@ -22,8 +24,8 @@ impl Row {
     /// The answers of both programs are checked here.
     fn new(name: String, log: Vec<u32>) -> Self {
         let words = checks::figures(&log).links;
-        let (width, kept) = (checks::check_report(&log), checks::check_trimmed(&log));
-        Row { name, words, width, kept, log }
+        let (width, kept, links) = (checks::check_report(&log), checks::check_trimmed(&log), checks::check_count(&log));
+        Row { name, words, width, kept, links, log }
     }
 
     fn random(name: String, episodes: usize, words: usize) -> Self {
@@ -125,8 +127,12 @@ pub fn print(rounds: usize) {
     for (first, rows) in &tables {
         print_table(first, ("width", |row| row.width), rows, &mut times);
     }
-    println!("\nThe same for the trimmed copy.");
     let (first, shapes) = &tables[0];
-    let times = measure(&TRIMMED_COPY, &shapes.iter().collect::<Vec<_>>(), rounds);
+    let rows: Vec<&Row> = shapes.iter().collect();
+    println!("\nThe same for the trimmed copy.");
+    let times = measure(&TRIMMED_COPY, &rows, rounds);
     print_table(first, ("links kept", |row| row.kept), shapes, times.iter());
+    println!("\nThe same for the link count.");
+    let times = measure(&LINK_COUNT, &rows, rounds);
+    print_table(first, ("links", |row| row.links), shapes, times.iter());
 }
