@@ -3,7 +3,7 @@
 use crate::counts::{Service, grouped, row};
 use crate::lent::{Lent, WATCHED};
 use crate::object::Object;
-use crate::services::header::{self, Lending, Reading, Threading};
+use crate::services::header::{self, Counting, Lending, Reading, Threading};
 use crate::services::{Answer, Compared, Door, ReadAnswer, Services, ThreadAnswer, lending};
 use std::collections::HashSet;
 use std::fmt::Debug;
@@ -13,6 +13,8 @@ use std::hash::{DefaultHasher, Hash, Hasher};
 #[derive(Clone, Copy)]
 pub struct Older {
     read: Reading,
+    /// None in builds of versions that had no link count.
+    links: Option<Counting>,
     report: Lending,
     fair_copy: Lending,
     trimmed_copy: Lending,
@@ -23,10 +25,11 @@ impl Older {
     /// Those of the shared object at `path`.
     pub fn open(path: &str) -> Result<Older, String> {
         let object = Object::open(path)?;
-        // SAFETY: these are the types that the header gives the five functions.
+        // SAFETY: these are the types that the header gives the six functions.
         unsafe {
             Ok(Older {
                 read: object.function(c"zohapy_read")?,
+                links: object.function(c"zohapy_links").ok(),
                 report: object.function(c"zohapy_report")?,
                 fair_copy: object.function(c"zohapy_fair_copy")?,
                 trimmed_copy: object.function(c"zohapy_trimmed_copy")?,
@@ -39,11 +42,17 @@ impl Older {
     pub fn linked() -> Older {
         Older {
             read: header::zohapy_read,
+            links: Some(header::zohapy_links),
             report: header::zohapy_report,
             fair_copy: header::zohapy_fair_copy,
             trimmed_copy: header::zohapy_trimmed_copy,
             thread: header::zohapy_thread,
         }
+    }
+
+    /// Whether the build has the link count. Where it has none, these calls are not compared.
+    pub fn counts_links(&self) -> bool {
+        self.links.is_some()
     }
 }
 
@@ -109,6 +118,21 @@ impl<S: Services> Services for Beside<S> {
         // SAFETY: the pointer and the length are those of a slice.
         let old = unsafe { (self.older.read)(kept.as_ptr(), kept.len()) };
         self.compared = compare(new, old, &[("log", log, &self.log)]);
+        new
+    }
+
+    fn links(&mut self, door: Door, log: &mut Lent) -> Answer {
+        self.log.keep(log);
+        let new = self.newer.links(door, log);
+        self.compared = match self.older.links {
+            Some(links) => {
+                let kept = self.log.lent();
+                // SAFETY: the pointer and the length are those of a slice.
+                let old = unsafe { links(kept.as_ptr(), kept.len()) };
+                compare(new, old, &[("log", log, &self.log)])
+            }
+            None => Compared::Not,
+        };
         new
     }
 
@@ -236,6 +260,7 @@ mod tests {
     use super::*;
     use crate::lent::Filling;
     use crate::random::Random;
+    use crate::services::Library;
 
     const ANSWER: Answer = Answer { number: 0, value: 3 };
 
@@ -288,6 +313,21 @@ mod tests {
     fn both_values_are_told() {
         let what = first_difference("log", &[1; 40], &[[1; 20], [2; 20]].concat()).expect("they differ");
         assert_eq!(what, "word 4 of the log is 00000001, that of the older build 00000002");
+    }
+
+    #[test]
+    fn a_build_without_the_link_count_is_taken() {
+        let without = Older { links: None, ..Older::linked() };
+        assert!(Older::linked().counts_links() && !without.counts_links());
+        for (older, compared) in [(Older::linked(), true), (without, false)] {
+            let mut beside = Beside::new(Library, older);
+            let mut lent = Lent::new();
+            lent.fill(10, &Filling::new(), &mut Random::new(1));
+            beside.links(Door::C, &mut lent);
+            assert_eq!(matches!(beside.compared(), Compared::Same), compared);
+            beside.read(Door::C, &mut lent);
+            assert!(matches!(beside.compared(), Compared::Same));
+        }
     }
 
     #[test]

@@ -30,6 +30,9 @@ pub enum Gave {
     Report(Shown, Vec<u32>),
 }
 
+/// What a link count call gave: the count, or number and place.
+pub type Counted = Result<usize, (u32, usize)>;
+
 /// What a fair copy call gave: the copy's words, or number and place.
 pub type Copied = Result<Vec<u32>, (u32, usize)>;
 
@@ -202,6 +205,40 @@ impl<S: Services> Caller<S> {
         }
         self.judge("read", || format!("log {} words", self.log.len()), found)?;
         Ok(answer)
+    }
+
+    /// The link count, through both doors, which must give the same.
+    pub fn links(&mut self, subject: &Subject, random: &mut Random) -> Checked<Counted> {
+        let (rust, c) = (self.links_by(Door::Rust, subject, random)?, self.links_by(Door::C, subject, random)?);
+        let mut found = Found::default();
+        found.ask(Check::BothDoors, rust == c, || format!("{rust:?} through the Rust wrapper, {c:?} through the C header"));
+        self.judge("links", || format!("log {} words", self.log.len()), found)?;
+        Ok(c)
+    }
+
+    fn links_by(&mut self, door: Door, subject: &Subject, random: &mut Random) -> Checked<Counted> {
+        self.log.set(&subject.words, &self.filling, random);
+        self.counts.interface(door == Door::C);
+        let answer = self.services.links(door, &mut self.log);
+        self.count(Service::Links, answer.number, subject);
+        let mut found = self.beside(Service::Links, answer.number);
+        let Answer { number, value } = answer;
+        if !self.bare {
+            self.ask_words_kept(&mut found);
+            if let Err(refusal) = subject.reading {
+                ask_refusal(number, value, refusal, &mut found);
+            } else if let Some(passed) = &subject.passed
+                && ask_given(answer, &mut found)
+            {
+                let due = passed.link_count();
+                found.ask(Check::Values, value == due, || format!("{value} different links instead of {due}"));
+                for &links in passed.links(&subject.words) {
+                    self.counts.links(links);
+                }
+            }
+        }
+        self.judge("links", || format!("log {} words", self.log.len()), found)?;
+        Ok(if number == 0 { Ok(value) } else { Err((number, value)) })
     }
 
     pub fn report(&mut self, subject: &Subject, lengths: Lengths, random: &mut Random) -> Checked<Gave> {
@@ -378,7 +415,7 @@ fn passed(subject: &Subject, need: fn(usize, usize) -> usize, lengths: Lengths) 
     Ok(subject.passed.as_ref().expect("a log that passes has a graph"))
 }
 
-/// Whether a report or a copy was given; it must have been.
+/// Whether a count, a report or a copy was given; it must have been.
 fn ask_given(answer: Answer, found: &mut Found) -> bool {
     found.ask(Check::Number, answer.number == 0, || format!("refused {} at {}", answer.number, answer.value));
     answer.number == 0

@@ -1,6 +1,6 @@
 //! Logs that were worked through by hand, with the exact answers; and all logs of at most three episodes.
 
-use crate::calls::{Caller, Gave, Lengths, Trimmed};
+use crate::calls::{Caller, Counted, Gave, Lengths, Trimmed};
 use crate::checks::{Check, Checked, Disagreement};
 use crate::counts::Asked;
 use crate::random::Random;
@@ -139,6 +139,73 @@ const REFUSALS: [(&str, u32, usize); 43] = [
     ("10000003 20000000 30010003 20010000 30000001 F0000002", 7, 2),
 ];
 
+/// Logs with their counts of to words and their link counts.
+const COUNTS: [(&str, usize, usize); 27] = [
+    (EMPTY, 0, 0),
+    ("10000001 F0000000", 0, 0),
+    (ALONE, 0, 0),
+    (WHOLE, 2, 2),
+    (TWICE, 2, 1),
+    (AROUND, 2, 2),
+    (ITSELF, 1, 1),
+    ("10000001 20000000 30000000 30000000 F0000002", 2, 1),
+    // 0-0, 0-1, 1-0 and 1-1, each twice.
+    (
+        "10000002 20000000 30000000 30000001 20000001 30000000 30000001 30000000 30000001 20000000 30000001 30000000 F0000008",
+        8,
+        4,
+    ),
+    // The same link in two groups of one episode: alone, with a group of another episode between them, and beside other links.
+    ("10000002 20000000 30000001 20000000 30000001 F0000002", 2, 1),
+    ("10000003 20000000 30000001 20000001 30000001 20000000 30000001 F0000003", 3, 2),
+    ("10000004 20000000 30000001 30000002 20000000 30000003 30000001 F0000004", 4, 3),
+    // A repeat behind another link.
+    ("10000003 20000000 30000001 30000002 30000001 F0000003", 3, 2),
+    // Two pauses on one link, in one group and in two; the longest beside none; the same pause twice; one pause on two links.
+    (TWO_PAUSES, 2, 1),
+    ("10000002 20000000 30020001 20000000 30010001 F0000002", 2, 1),
+    ("10000002 20000000 3FFF0001 30000001 F0000002", 2, 1),
+    ("10000002 20000000 30070001 30070001 F0000002", 2, 1),
+    ("10000003 20000000 30070001 30070002 F0000002", 2, 2),
+    // Implied links count.
+    (BESIDE, 3, 3),
+    (BESIDE_PAUSED, 3, 3),
+    (DIAMOND, 4, 4),
+    (AROUND_PAUSED, 2, 2),
+    // 199-199 with 199-198 and 198-199, without repeats and with them.
+    ("100000C8 200000C7 300000C7 300000C6 200000C6 300000C7 F0000003", 3, 3),
+    ("100000C8 200000C6 300000C7 200000C7 300000C7 300000C6 300000C7 200000C6 300100C7 F0000005", 5, 3),
+    // 0-7, 0-39, 0-71, 0-135 and 128-7: the low bits of the episodes are the same.
+    ("100000C8 20000000 30000007 30000027 30000047 30000087 20000080 30000007 F0000005", 5, 5),
+    // 0-192 and 1-0, 0-199 and 1-7.
+    ("100000C8 20000000 300000C0 300000C7 20000001 30000000 30000007 F0000004", 4, 4),
+    // 0-1 three times, and 2-2; no link joins 3.
+    ("10000004 20000000 30000001 30000001 20000002 30000002 20000000 30000001 F0000004", 4, 2),
+];
+
+/// Logs that are refused, with number and place: no count is given, though links stand before the word that is refused, or
+/// behind it for 2, 3 and 5.
+const UNCOUNTED: [(&str, u32, usize); 17] = [
+    ("10000002", 1, 0),
+    ("00000002 20000000 30000001 30000001 F0000002", 2, 0),
+    ("100000C9 20000000 30000001 30000001 F0000002", 3, 0),
+    ("10000003 20000000 30000001 30000002 10000003 F0000002", 4, 4),
+    ("10000003 20000000 30000001 30000001 40000000 30000002 F0000003", 4, 4),
+    ("10000003 30000001 20000000 30000001 30000002 F0000003", 5, 1),
+    ("10000003 20000000 30000001 30000001 20000001 F0000002", 6, 4),
+    ("10000003 20000000 30000001 20000001 20000001 30000002 F0000002", 6, 3),
+    ("10000003 20000000 30000001 30000002 20000003 30000001 F0000003", 7, 4),
+    ("10000003 20000000 30000001 30000001 30000003 F0000003", 7, 4),
+    ("10000003 20000000 30050001 30050003 F0000002", 7, 3),
+    ("10000003 20000000 30000001 30000001 30000002", 9, 4),
+    ("10000003 20000000 30000001 30000001 E0000002", 9, 4),
+    // The end gives the link count, and not the count of to words.
+    ("10000002 20000000 30000001 30000001 F0000001", 10, 4),
+    ("10000002 20000000 30020001 20000000 30010001 F0000001", 10, 5),
+    ("10000003 20000000 30000001 30000002 F0000003", 10, 4),
+    ("10000003 20000000 30000001 30000002 F0000000", 10, 4),
+];
+
 /// Logs with their fair copies. The first ones are older logs, with older copies.
 const COPIES: [(&str, &str); 21] = [
     (EMPTY, EMPTY),
@@ -268,6 +335,7 @@ fn refused<S: Services>(caller: &mut Caller<S>, words: Vec<u32>, due: (u32, usiz
     if said != (ReadAnswer { number: due.0, place: due.1, episodes: 0, links: 0 }) {
         return differ("read", &subject.words, format!("{said:?} instead of {due:?}"));
     }
+    counted_as(caller, &subject, Err(due), random)?;
     report_refused(caller, &subject, PLENTY, due, random)?;
     match caller.fair_copy(&subject, PLENTY, random)? {
         Err(said) if said == due => {}
@@ -312,6 +380,14 @@ fn read_as<S: Services>(caller: &mut Caller<S>, subject: &Subject, n: usize, t: 
     Ok(())
 }
 
+fn counted_as<S: Services>(caller: &mut Caller<S>, subject: &Subject, due: Counted, random: &mut Random) -> Checked<()> {
+    let said = caller.links(subject, random)?;
+    if said != due {
+        return differ("links", &subject.words, format!("{said:?} instead of {due:?}"));
+    }
+    Ok(())
+}
+
 /// All cases.
 pub fn all<S: Services>(caller: &mut Caller<S>) -> Checked<()> {
     let random = &mut Random::new(7);
@@ -342,7 +418,12 @@ pub fn all<S: Services>(caller: &mut Caller<S>) -> Checked<()> {
         let lengths = Lengths { out, work: WORK };
         trimmed_as(caller, &Subject::new(words(log)), lengths, &Trimmed::Loop(words(shown)), random)?;
     }
-    for (log, number, place) in REFUSALS {
+    for (log, t, count) in COUNTS {
+        let subject = Subject::new(words(log));
+        read_as(caller, &subject, (subject.words[0] - word(HEAD, 0)) as usize, t, random)?;
+        counted_as(caller, &subject, Ok(count), random)?;
+    }
+    for (log, number, place) in REFUSALS.into_iter().chain(UNCOUNTED) {
         refused(caller, words(log), (number, place), random)?;
     }
     for (log, copy) in COPIES {
@@ -368,7 +449,7 @@ pub fn all<S: Services>(caller: &mut Caller<S>) -> Checked<()> {
     at_most_three(caller, random)
 }
 
-/// 0-1 given three times, with every three of these pauses: the copy has the least of them.
+/// 0-1 given three times, with every three of these pauses: the copy has the least of them, and it counts once.
 fn three_pauses<S: Services>(caller: &mut Caller<S>, random: &mut Random) -> Checked<()> {
     let pauses = [(0, 0x3000_0001), (1, 0x3001_0001), (255, 0x30FF_0001), (256, 0x3100_0001), (4_095, 0x3FFF_0001)];
     for i in 0..125 {
@@ -379,6 +460,7 @@ fn three_pauses<S: Services>(caller: &mut Caller<S>, random: &mut Random) -> Che
         if said.as_ref() != Ok(&due) {
             return differ("fair_copy", &subject.words, format!("{said:X?} instead of {}", hex(&due)));
         }
+        counted_as(caller, &subject, Ok(1), random)?;
     }
     Ok(())
 }
@@ -425,6 +507,7 @@ fn short_buffers<S: Services>(caller: &mut Caller<S>, random: &mut Random) -> Ch
 fn at_the_ceilings<S: Services>(caller: &mut Caller<S>, random: &mut Random) -> Checked<()> {
     let most = Subject::new(log(200, &[], 0, random));
     read_as(caller, &most, 200, 0, random)?;
+    counted_as(caller, &most, Ok(0), random)?;
     match caller.report(&most, PLENTY, random)? {
         Gave::Report(shown, said) if shown.apart == Vec::from_iter(0..200) && said.len() == 602 => {}
         _ => return differ("report", &most.words, "each of 200 episodes is a thread".into()),
@@ -439,6 +522,7 @@ fn at_the_ceilings<S: Services>(caller: &mut Caller<S>, random: &mut Random) -> 
         for (links, copy) in [(&none, "10000002 20000000 30000001 F0000001"), (&falling, "10000002 20000000 38000001 F0000001")] {
             let full = Subject::new(log(2, &links[..4_096], splits, random));
             read_as(caller, &full, 2, 4_096, random)?;
+            counted_as(caller, &full, Ok(1), random)?;
             match caller.report(&full, PLENTY, random)? {
                 Gave::Report(_, said) if said == words("40000001 50000001 60000002 70000000 70000001 F0000005") => {}
                 _ => return differ("report", &full.words, "the report is that of one link".into()),
@@ -457,20 +541,32 @@ fn at_the_ceilings<S: Services>(caller: &mut Caller<S>, random: &mut Random) -> 
     if caller.fair_copy(&own, exact, random)?.as_ref() != Ok(&own.words) {
         return differ("fair_copy", &own.words, "the copy is the log".into());
     }
+    counted_as(caller, &own, Ok(4_096), random)?;
+    // The last 4,096 pairs of episodes, 199-199 the last; then the first 2,048 of these twice. 4,097 different links are refused.
+    let last: Vec<Noted> = (200 * 200 - 4_097..200 * 200).map(|i| (i / 200, i % 200, i % 4_096)).collect();
+    let twice = [&last[1..2_049], &last[1..2_049]].concat();
+    for (links, count) in [(&last[1..], 4_096), (&twice, 2_048)] {
+        counted_as(caller, &Subject::new(log(200, links, 4, random)), Ok(count), random)?;
+    }
+    refused(caller, log(200, &last, 16, random), (8, 1 + 2 * 4_096 + 1), random)?;
     // Links to the next of 200 episodes, to the one behind it, and so on to 4,096: the links to the next stay.
     let steps = (1..200).flat_map(|step| (0..200 - step).map(move |v| (v, v + step)));
     let most: Vec<_> = steps.take(4_096).collect();
     let chain = log(200, &older(&most[..199]), 0, random);
     let paused: Vec<Noted> = most.iter().map(|&(from, to)| (from, to, 20 * from)).collect();
     for links in [older(&most), paused] {
-        trimmed_as(caller, &Subject::new(log(200, &links, 0, random)), exact, &Trimmed::Copy(chain.clone()), random)?;
+        let subject = Subject::new(log(200, &links, 0, random));
+        trimmed_as(caller, &subject, exact, &Trimmed::Copy(chain.clone()), random)?;
+        counted_as(caller, &subject, Ok(4_096), random)?;
     }
     trimmed_as(caller, &Subject::new(chain.clone()), Lengths { out: 400, work: WORK }, &Trimmed::Copy(chain), random)?;
     // One loop of all 200, in exactly the words that are needed.
     let round: Vec<_> = (0..200).map(|v| (v, (v + 1) % 200, v)).collect();
     let shown = std::iter::once(word(LOOP, 200)).chain((0..200).map(|v| word(STEP, v))).collect();
     let exact = Lengths { out: 402, work: WORK };
-    trimmed_as(caller, &Subject::new(log(200, &round, 0, random)), exact, &Trimmed::Loop(shown), random)
+    let round = Subject::new(log(200, &round, 0, random));
+    counted_as(caller, &round, Ok(200), random)?;
+    trimmed_as(caller, &round, exact, &Trimmed::Loop(shown), random)
 }
 
 /// Every set of links on at most three episodes, without pauses and with pauses at random.
@@ -478,9 +574,11 @@ fn at_most_three<S: Services>(caller: &mut Caller<S>, random: &mut Random) -> Ch
     for n in 0..=3 {
         for set in 0..1usize << (n * n) {
             let links: Vec<_> = (0..n * n).filter(|i| set >> i & 1 == 1).map(|i| (i / n, i % n)).collect();
+            let count = links.len();
             for links in [older(&links), shapes::noted(&links, random)] {
                 let subject = Subject::new(log(n, &links, 0, random));
                 caller.read(&subject, random)?;
+                counted_as(caller, &subject, Ok(count), random)?;
                 let _ = caller.fair_copy(&subject, PLENTY, random)?;
                 let _ = caller.trimmed_copy(&subject, PLENTY, random)?;
                 if let Gave::Report(_, said) = caller.report(&subject, PLENTY, random)? {

@@ -39,6 +39,11 @@ pub enum Check {
     TrimmedReport,
     TrimmedCover,
     Least,
+    BothDoors,
+    ReadCount,
+    SameCount,
+    OtherCount,
+    TrimmedCount,
     Worked,
     Ends,
     Older,
@@ -46,10 +51,10 @@ pub enum Check {
 
 use Check::*;
 
-pub const CHECKS: [(Check, &str, &str); 39] = [
+pub const CHECKS: [(Check, &str, &str); 44] = [
     (Number, "number", "the answer's number: 0 or that of the refusal"),
     (Place, "place", "the refusal's place"),
-    (Values, "values", "n and the count of to words; the copy's count of words"),
+    (Values, "values", "n and the count of to words; the link count; the copy's count of words"),
     (LogKept, "log kept", "the words that came in are unchanged"),
     (OutKept, "output kept", "after refusals 1 to 12 the output is unchanged"),
     (OutBehind, "output behind", "behind what is written the output is unchanged"),
@@ -82,7 +87,7 @@ pub const CHECKS: [(Check, &str, &str); 39] = [
     (
         SameOutcome,
         "same outcome",
-        "reading, report and trimmed copy have the same refusal 1 to 10; the last two both a loop, or none",
+        "reading, link count, report and trimmed copy have the same refusal 1 to 10; the last two both a loop, or none",
     ),
     (SameTrimmed, "same trimmed", "logs with the same n and ways, whatever their pauses, have the same trimmed copy"),
     (OtherTrimmed, "other trimmed", "a way more, a way fewer, or an episode more, gives another trimmed copy"),
@@ -91,6 +96,11 @@ pub const CHECKS: [(Check, &str, &str); 39] = [
     (TrimmedReport, "trimmed report", "log and trimmed copy have the same width and apart set"),
     (TrimmedCover, "trimmed cover", "the threads of the report on the trimmed copy are a cover of the log"),
     (Least, "least", "a log with the same n and ways has each link of the trimmed copy"),
+    (BothDoors, "both doors", "the Rust wrapper and the C header give the same link count"),
+    (ReadCount, "read count", "the link count is at most the log's count of to words, and is that of its fair copy"),
+    (SameCount, "same count", "logs with the same links, whatever their order, repeats, pauses and n, have the same link count"),
+    (OtherCount, "other count", "a link more is one more in the link count"),
+    (TrimmedCount, "trimmed count", "the link count of the trimmed copy is its count of to words, and at most that of the log"),
     (Worked, "worked", "the logs that were worked through by hand"),
     (Ends, "ends", "the call comes back, without a panic"),
     (Older, "older build", "the answer of an older build and every word that it leaves"),

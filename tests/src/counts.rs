@@ -1,7 +1,8 @@
 //! How often everything was met, and the table that a run ends with.
 
 use crate::beside::Tally;
-use crate::words::{LONGEST_PAUSE, Noted, TO, episode, kind, number, pause};
+use crate::words::{LONGEST_PAUSE, Link, Noted, TO, episode, kind, number, pause};
+use std::collections::BTreeSet;
 
 /// A list of things that are counted, each with its name in the table.
 macro_rules! counted {
@@ -19,6 +20,7 @@ macro_rules! counted {
 counted! {
     Service {
         Read = "read",
+        Links = "links",
         Report = "report",
         FairCopy = "fair_copy",
         TrimmedCopy = "trimmed_copy",
@@ -63,6 +65,25 @@ counted! {
         LeastZero = "several on one link, the least 0",
         Back = "others on the link back",
         Falling = "numbers that fall where the later episodes rise",
+    }
+}
+
+counted! {
+    /// The links of logs that are counted. A log can be of several of these.
+    Links {
+        None = "none",
+        Once = "as many as to words",
+        Fewer = "fewer than to words",
+        Behind = "a link again behind another link",
+        Groups = "a link again in another group of its episode",
+        Pauses = "a link again with another pause",
+        Own = "of an episode to itself",
+        Back = "a link and the link back",
+        Loop = "a loop",
+        Far32 = "to two episodes that are 32 apart",
+        Far128 = "to two episodes that are 128 apart",
+        From128 = "from two episodes that are 128 apart to the same one",
+        Most = "4,096 different ones",
     }
 }
 
@@ -136,6 +157,8 @@ counted! {
         SameLinks = "same links and least pauses, other order and repeats",
         ReadBack = "copy read back",
         CopyOfCopy = "copy of a copy",
+        Counted = "links counted, of log, copy and log with the same links",
+        OtherPauses = "same links, other pauses",
         LinkMore = "a link more",
         EpisodeMore = "an episode more",
         OtherPause = "another least pause",
@@ -143,7 +166,7 @@ counted! {
         SameOutcome = "same outcome of report and trimmed copy",
         Damaged = "same outcome, a damaged log",
         TrimmedOfCopies = "trimmed copy of copies",
-        TrimmedRead = "trimmed copy read and reported on",
+        TrimmedRead = "trimmed copy read, counted and reported on",
         SameWays = "same ways, other links",
         WayMore = "a way more",
         WayFewer = "a way fewer",
@@ -190,6 +213,44 @@ impl Pauses {
     }
 }
 
+impl Links {
+    /// Those of a log that passes, which has a loop or none.
+    pub fn met(log: &[u32], has_loop: bool) -> Vec<Links> {
+        // Each to word with its two episodes, its group, its pause and its own number, the repeats of a link side by side.
+        let (mut from, mut group, mut all) = (0, 0, Vec::new());
+        for &given in &log[1..log.len() - 1] {
+            match kind(given) {
+                TO => all.push(((from, episode(given)), group, pause(given), all.len())),
+                _ => (from, group) = (number(given), group + 1),
+            }
+        }
+        all.sort_by_key(|to| to.0);
+        let once: BTreeSet<Link> = all.iter().map(|to| to.0).collect();
+        let any = |holds: &dyn Fn(Link) -> bool| once.iter().any(|&link| holds(link));
+        let again =
+            |holds: fn(&GivenTo, &GivenTo) -> bool| all.windows(2).any(|two| two[0].0 == two[1].0 && holds(&two[0], &two[1]));
+        let met = [
+            (Links::None, once.is_empty()),
+            (Links::Once, !once.is_empty() && once.len() == all.len()),
+            (Links::Fewer, once.len() < all.len()),
+            (Links::Behind, again(|one, next| one.3 + 1 < next.3)),
+            (Links::Groups, again(|one, next| one.1 != next.1)),
+            (Links::Pauses, again(|one, next| one.2 != next.2)),
+            (Links::Own, any(&|(from, to)| from == to)),
+            (Links::Back, any(&|(from, to)| from < to && once.contains(&(to, from)))),
+            (Links::Loop, has_loop),
+            (Links::Far32, any(&|(from, to)| once.contains(&(from, to + 32)))),
+            (Links::Far128, any(&|(from, to)| once.contains(&(from, to + 128)))),
+            (Links::From128, any(&|(from, to)| once.contains(&(from + 128, to)))),
+            (Links::Most, once.len() == 4_096),
+        ];
+        met.into_iter().filter(|met| met.1).map(|met| met.0).collect()
+    }
+}
+
+/// A to word as a log gives it: its link, its group, its pause, and how many to words stand before it.
+type GivenTo = (Link, usize, usize, usize);
+
 const SERVICES: usize = Service::NAMES.len();
 
 /// One more than the largest refusal number.
@@ -197,6 +258,7 @@ const NUMBERS: usize = 18;
 
 /// The answers that each service can give, all of which have to be met.
 const MUST: [&[usize]; SERVICES] = [
+    &[0, 1, 2, 3, 4, 5, 6, 7, 8, 9, 10],
     &[0, 1, 2, 3, 4, 5, 6, 7, 8, 9, 10],
     &[0, 1, 2, 3, 4, 5, 6, 7, 8, 9, 10, 11, 12, 13],
     &[0, 1, 2, 3, 4, 5, 6, 7, 8, 9, 10, 11, 12],
@@ -209,7 +271,7 @@ pub struct Counts {
     pub calls: u64,
     pub rounds: u64,
     numbers: [[u64; NUMBERS]; SERVICES],
-    lists: [(&'static str, &'static [&'static str], Vec<u64>); 11],
+    lists: [(&'static str, &'static [&'static str], Vec<u64>); 12],
     /// The calls that were compared with an older build.
     pub beside: Tally,
 }
@@ -233,6 +295,7 @@ impl Counts {
                 list("calls by shape of log, with a pause", Shape::NAMES),
                 list("calls by pauses of a log that passes", Pauses::NAMES),
                 list("calls refused by question 7, by its word", Seventh::NAMES),
+                list("link counts given, by links of the log", Links::NAMES),
             ],
             beside: Tally::default(),
         }
@@ -284,6 +347,10 @@ impl Counts {
 
     pub fn pauses(&mut self, pauses: Pauses) {
         self.lists[9].2[pauses as usize] += 1;
+    }
+
+    pub fn links(&mut self, links: Links) {
+        self.lists[11].2[links as usize] += 1;
     }
 
     /// Question 7 refuses the word at `place`.

@@ -6,6 +6,7 @@ use crate::reference::{Graph, WORK, copy_need, copy_words, in_order, least, note
 use crate::services::{Answer, Door, Library, ReadAnswer, Services, ThreadAnswer};
 use crate::words::{APART, END, FROM, HEAD, LARGEST, LONGEST_PAUSE, Link, Noted, STEP, THREAD, TO, WIDTH};
 use crate::words::{episode, kind, number, older, pause, to_word, word};
+use std::collections::BTreeSet;
 
 macro_rules! faults {
     ($($fault:ident = $name:literal,)*) => {
@@ -123,11 +124,48 @@ faults! {
     PauseParts = "links with a pause do not join",
     StepPause = "a thread's steps with the pauses before them",
     LoopPause = "a loop's steps with the pauses before them",
+    CountToWords = "to words counted for links",
+    CountNeighbours = "only repeats side by side counted once",
+    CountGroups = "repeats in another group counted",
+    CountPauses = "a link counted once for each of its pauses",
+    CountUnordered = "a link and the link back counted as one",
+    CountOwn = "links of an episode to itself not counted",
+    CountLast = "the last to word not counted",
+    CountLastGroup = "only the last group of an episode counted",
+    CountLastEpisode = "links from the last episode not counted",
+    CountFrom = "episodes that have links counted for links",
+    CountTo = "later episodes counted for links",
+    CountForgotten = "a link count of 0",
+    CountShort = "the link count by its low 12 bits",
+    CountRow32 = "later episodes 32 apart counted as one",
+    CountRow128 = "later episodes 128 apart counted as one",
+    CountFrom128 = "earlier episodes 128 apart counted as one",
+    CountRows = "rows of 192 bits, each of which runs into the next one",
+    CountTrimmed = "links that others imply not counted",
+    CountWays = "ways counted for links",
+    CountLoop = "13 for the link count of a log with a loop",
+    CountGiven = "a link count though one of the questions 4 to 9 refuses",
+    CountTenUnasked = "question 10 not asked for the link count",
+    CountTenOnce = "question 10 by the link count",
+    CountEightOnce = "question 8 by the link count",
+    CountNoPlace = "a refusal of the link count without its place",
+    CountForPlace = "the links so far for the place of a refusal",
+    CountLog = "a link count that changes the log",
+    CountOutside = "a link count that changes the word behind the log",
+    CountKept = "links kept from one link count to the next",
+    CountKeptRefused = "links before a refusal kept for the next link count",
+    CountRust = "to words counted for links by the Rust wrapper alone",
+    CountC = "to words counted for links by the C header alone",
 }
 
-pub struct Faulty(pub Fault);
+/// The library with a fault, and the links that the fault keeps from one call to the next.
+pub struct Faulty(Fault, BTreeSet<Link>);
 
 impl Faulty {
+    pub fn new(fault: Fault) -> Faulty {
+        Faulty(fault, BTreeSet::new())
+    }
+
     /// A call of the library, which gets the words of the log as the fault misreads them.
     fn misread<T>(&self, log: &mut Lent, call: impl FnOnce(&mut Lent) -> T) -> T {
         let words = log.lent().to_vec();
@@ -584,6 +622,78 @@ fn give_trimmed(copy: &[u32], out: &mut Lent, work: &mut Lent) -> Option<Answer>
     Some(Answer { number: 0, value: copy.len() })
 }
 
+/// How many different ones there are.
+fn different<T: Ord>(items: impl Iterator<Item = T>) -> usize {
+    items.collect::<BTreeSet<T>>().len()
+}
+
+/// The different links that words give, whatever they are.
+fn so_far(words: &[u32]) -> BTreeSet<Link> {
+    let mut from = 0;
+    let mut links = BTreeSet::new();
+    for &given in words {
+        match kind(given) {
+            FROM => from = number(given),
+            TO => drop(links.insert((from, episode(given)))),
+            _ => {}
+        }
+    }
+    links
+}
+
+/// The links of a log with the group that each stands in.
+fn in_groups(log: &[u32]) -> Vec<(Link, usize)> {
+    let groups = log.iter().scan(0, |group, &given| {
+        *group += usize::from(kind(given) == FROM);
+        Some((kind(given), *group))
+    });
+    let groups = groups.filter(|given| given.0 == TO).map(|given| given.1);
+    noted(log).into_iter().map(|(from, to, _)| (from, to)).zip(groups).collect()
+}
+
+/// The link count of a log that passes, with a fault in it, or none where the fault is another.
+fn altered_count(fault: Fault, log: &[u32], kept: &mut BTreeSet<Link>) -> Option<usize> {
+    let given = noted(log);
+    let graph = Graph::of(log);
+    let links = graph.links.iter().copied();
+    let count = match fault {
+        Fault::CountToWords => given.len(),
+        Fault::CountNeighbours => given.chunk_by(|one, next| (one.0, one.1) == (next.0, next.1)).count(),
+        Fault::CountGroups => different(in_groups(log).into_iter()),
+        Fault::CountPauses => different(given.into_iter()),
+        Fault::CountUnordered => different(links.map(|(from, to)| (from.min(to), from.max(to)))),
+        Fault::CountOwn => links.filter(|(from, to)| from != to).count(),
+        Fault::CountLast => different(given.split_last()?.1.iter().map(|link| (link.0, link.1))),
+        Fault::CountLastGroup => {
+            let all = in_groups(log);
+            let last = |from: usize| all.iter().filter(|given| given.0.0 == from).map(|given| given.1).max();
+            let lasts: Vec<Option<usize>> = (0..graph.n).map(last).collect();
+            different(all.iter().filter(|given| lasts[given.0.0] == Some(given.1)))
+        }
+        Fault::CountLastEpisode => links.filter(|link| link.0 + 1 < graph.n).count(),
+        Fault::CountFrom => different(links.map(|link| link.0)),
+        Fault::CountTo => different(links.map(|link| link.1)),
+        Fault::CountForgotten => 0,
+        Fault::CountShort => graph.links.len() % 4_096,
+        Fault::CountRow32 => different(links.map(|(from, to)| (from, to % 32))),
+        Fault::CountRow128 => different(links.map(|(from, to)| (from, to % 128))),
+        Fault::CountFrom128 => different(links.map(|(from, to)| (from % 128, to))),
+        Fault::CountRows => different(links.map(|(from, to)| 192 * from + to)),
+        Fault::CountTrimmed => Graph::of(&trimmed_words(log)?).links.len(),
+        Fault::CountWays => (0..graph.n).map(|v| graph.ways_from(v).iter().filter(|&&way| way).count()).sum(),
+        Fault::CountKept => {
+            kept.extend(links);
+            kept.len()
+        }
+        Fault::CountKeptRefused => {
+            kept.extend(links);
+            std::mem::take(kept).len()
+        }
+        _ => return None,
+    };
+    Some(count)
+}
+
 impl Services for Faulty {
     fn read(&mut self, door: Door, log: &mut Lent) -> ReadAnswer {
         let mut answer = self.misread(log, |log| Library.read(door, log));
@@ -596,6 +706,36 @@ impl Services for Faulty {
             }
             Fault::RepeatsOnce if answer.number == 0 => answer.links = Graph::of(words).links.len(),
             Fault::LogChanged => changed(log.lent_mut(), 1),
+            _ => {}
+        }
+        answer
+    }
+
+    fn links(&mut self, door: Door, log: &mut Lent) -> Answer {
+        let mut answer = self.misread(log, |log| Library.links(door, log));
+        (answer.number, answer.value) = self.refusal(log.lent(), answer.number, answer.value);
+        let words = log.lent();
+        let last = words.len().saturating_sub(1);
+        match (self.0, answer.number) {
+            (Fault::CountLoop, 0) if Graph::of(words).has_loop() => answer = Answer { number: 13, value: 1 },
+            (Fault::CountTenOnce, 0) if so_far(words).len() != number(words[last]) => answer = Answer { number: 10, value: last },
+            (Fault::CountTenOnce, 10) if so_far(words).len() != number(words[last]) => {}
+            (Fault::CountGiven, 4..=9) | (Fault::CountTenUnasked | Fault::CountTenOnce, 10) => {
+                answer = Answer { number: 0, value: so_far(&words[..answer.value]).len() };
+            }
+            (Fault::CountEightOnce, 8) if so_far(words).len() <= 4_096 => {
+                answer = Answer { number: 0, value: so_far(words).len() };
+            }
+            (Fault::CountNoPlace, 1..) => answer.value = 0,
+            (Fault::CountForPlace, 1..) => answer.value = so_far(&words[..answer.value]).len(),
+            (Fault::CountKeptRefused, 1..) => self.1.extend(so_far(&words[..answer.value])),
+            (Fault::CountRust, 0) if door == Door::Rust => answer.value = noted(words).len(),
+            (Fault::CountC, 0) if door == Door::C => answer.value = noted(words).len(),
+            (Fault::CountLog | Fault::LogChanged, _) => changed(log.lent_mut(), 1),
+            (Fault::CountOutside, _) => changed(log.with_outside_mut(), 16),
+            (fault, 0) if in_order(words).is_ok() => {
+                answer.value = altered_count(fault, words, &mut self.1).unwrap_or(answer.value);
+            }
             _ => {}
         }
         answer

@@ -26,7 +26,7 @@ use beside::Older;
 use std::process::ExitCode;
 
 const USAGE: &str =
-    "cross-checks [--calls N] [--seed S] [--threads T]   random calls; 100,000 with seed 1 in one thread unless said
+    "cross-checks [--calls N] [--seed S] [--threads T]   random calls; 125,000 with seed 1 in one thread unless said
 cross-checks --round R                              one round again, by the seed that a disagreement prints
 cross-checks --beside LIBRARY [..]                  with one of these: an older build, a shared object, makes each call too
 cross-checks --program PATH [--seed S]              the printing program too

@@ -1,4 +1,5 @@
-//! The printing program: its text on many inputs, compared line by line with what it must be.
+//! The printing program: its text on many inputs, compared line by line with what it must be. The wrapper's reports are
+//! displayed as the same text, and are judged too.
 
 use crate::checkers::{self, Shown};
 use crate::checks::Found;
@@ -6,10 +7,11 @@ use crate::disagreement;
 use crate::random::Random;
 use crate::reference::{Refusal, Subject, WORK, bytes, report_need};
 use crate::shapes;
-use crate::words::{bytes as as_bytes, log};
+use crate::words::{TO, bytes as as_bytes, kind, log, number};
 use std::io::{Read, Write};
 use std::process::{Command, Stdio};
 use std::time::Duration;
+use zohapy::{Failure, Report};
 
 /// How many inputs at least, and how often each answer has to be met.
 const INPUTS: usize = 400;
@@ -58,11 +60,12 @@ fn judge(input: &[u8], text: &str) -> Result<u32, String> {
         Err(refusal) => return settled_text(refusal),
     };
     let subject = Subject::new(words);
-    let (n, links) = match subject.reading {
-        Ok(read) => read,
+    let n = match subject.reading {
+        Ok((n, _)) => n,
         Err(refusal) => return settled_text(refusal),
     };
     let passed = subject.passed.as_ref().expect("a log that passes has a graph");
+    let links = passed.link_count();
     let mut lines = text.lines();
     match passed.furthest() {
         None => {
@@ -89,6 +92,23 @@ fn judge(input: &[u8], text: &str) -> Result<u32, String> {
             found.0.pop().map_or(Ok(0), |(check, what)| Err(format!("{check:?}: {what}")))
         }
     }
+}
+
+/// What the wrapper gives for an input.
+fn wrapped(input: &[u8]) -> Result<Report, Failure> {
+    Report::of(&zohapy::words_from_bytes(input)?)
+}
+
+/// Compares what the wrapper gave with what it must give: its text, and the link count of its report.
+fn judge_wrapped(input: &[u8], wrapped: &Result<Report, Failure>) -> Result<u32, String> {
+    let passed = bytes(input).ok().and_then(|words| Subject::new(words).passed);
+    let due = passed.map_or(0, |passed| passed.link_count());
+    let text = match wrapped {
+        Ok(report) if report.links != due => return Err(format!("the wrapper: {} links instead of {due}", report.links)),
+        Ok(report) => report.to_string(),
+        Err(failure) => failure.to_string(),
+    };
+    judge(input, &text).map_err(|what| format!("the wrapper: {what}"))
 }
 
 /// Runs the program on an input that is written in pieces of at most `piece` bytes.
@@ -153,6 +173,7 @@ fn input(index: usize, random: &mut Random) -> Vec<u8> {
 pub fn check(path: &str, seed: u64) -> bool {
     let mut random = Random::new(seed);
     let mut met = [0; 16];
+    let mut repeats = 0;
     let mut count = 0;
     while count < INPUTS || (NUMBERS.iter().any(|&number| met[number] < FLOOR) && count < MOST_INPUTS) {
         let input = input(count, &mut random);
@@ -161,7 +182,10 @@ pub fn check(path: &str, seed: u64) -> bool {
             1 => (random.between(100, 5_000), random.chance(1, 4)),
             _ => (usize::MAX, false),
         };
-        match printed(path, &input, piece, pause).and_then(|text| judge(&input, &text)) {
+        let wrapped = wrapped(&input);
+        repeats += usize::from(wrapped.as_ref().is_ok_and(|report| report.links < to_words(&input)));
+        let judged = judge_wrapped(&input, &wrapped);
+        match judged.and_then(|_| printed(path, &input, piece, pause)).and_then(|text| judge(&input, &text)) {
             Ok(number) => met[number as usize] += 1,
             Err(what) => {
                 println!(
@@ -180,11 +204,12 @@ pub fn check(path: &str, seed: u64) -> bool {
     }
     println!("program: {count} inputs, no disagreement; answers by number, 0 is no refusal:");
     println!("{}", NUMBERS.map(|number| format!("{number}: {}", met[number])).join("  "));
+    println!("reports with fewer links than to words: {repeats}");
     let missing: Vec<_> = NUMBERS.iter().filter(|&&number| met[number] < FLOOR).collect();
     if !missing.is_empty() {
         println!("met fewer than {FLOOR} times: {missing:?}");
     }
-    missing.is_empty()
+    missing.is_empty() && repeats >= FLOOR
 }
 
 /// Judges the text that is stored beside the log in a file.
@@ -193,7 +218,7 @@ pub fn sample(log: &str) -> bool {
     let judged = std::fs::read(log)
         .and_then(|input| Ok((input, std::fs::read_to_string(&stored)?)))
         .map_err(|error| error.to_string())
-        .and_then(|(input, text)| judge(&input, &text));
+        .and_then(|(input, text)| judge_wrapped(&input, &wrapped(&input)).and_then(|_| judge(&input, &text)));
     match judged {
         Ok(number) => println!("{log}: the stored text agrees; its answer is {number}"),
         Err(ref what) => println!("DISAGREEMENT in {}: {what}", stored.display()),
@@ -208,9 +233,9 @@ fn right_text(input: &[u8]) -> String {
         Err(refusal) => return refusal_text(refusal),
     };
     let (mut out, mut work) = (vec![0; report_need(200)], vec![0; WORK]);
-    match (zohapy::read(&log), zohapy::report(&log, &mut out, &mut work)) {
-        (Ok(read), zohapy::Outcome::Report(count)) => {
-            report_text(read.episodes, read.links, &checkers::layout(&out[..count]).expect("a report"))
+    match (zohapy::link_count(&log), zohapy::report(&log, &mut out, &mut work)) {
+        (Ok(links), zohapy::Outcome::Report(count)) => {
+            report_text(number(log[0]), links, &checkers::layout(&out[..count]).expect("a report"))
         }
         (_, zohapy::Outcome::Loop(length)) => loop_text(&checkers::loop_steps(&out[..length + 1]).expect("a loop")),
         (_, zohapy::Outcome::Refused(refusal)) => refusal_text(Refusal { number: refusal.number, place: refusal.place }),
@@ -218,22 +243,32 @@ fn right_text(input: &[u8]) -> String {
     }
 }
 
-type Alteration = fn(String) -> String;
+/// How many to words an input has.
+fn to_words(input: &[u8]) -> usize {
+    bytes(input).map_or(0, |words| words.iter().filter(|&&given| kind(given) == TO).count())
+}
+
+/// Alters the text for an input.
+type Alteration = fn(String, &[u8]) -> String;
 
 /// Texts with a fault: whatever is altered must be refused.
-const TEXT_FAULTS: [(&str, Alteration); 12] = [
-    ("no newline at the end", |text| text.trim_end().to_string()),
-    ("an empty line at the end", |text| text + "\n"),
-    ("two spaces", |text| text.replacen(' ', "  ", 1)),
-    ("a space at the end of a line", |text| text.replace('\n', " \n")),
-    ("a space behind apart alone", |text| text.replace("apart\n", "apart \n")),
-    ("carriage returns", |text| text.replace('\n', "\r\n")),
-    ("a figure with a zero before it", |text| text.replacen(' ', " 0", 1)),
-    ("the place one digit longer", |text| text.replacen(" at ", " at 1", 1)),
-    ("14 with the byte count", |text| text.replace("refused 14 at 32776", "refused 14 at 32777")),
-    ("no loop line", |text| text.split_inclusive('\n').filter(|line| !line.starts_with("loop")).collect()),
-    ("the last line missing", |text| text[..text.trim_end().rfind('\n').map_or(0, |end| end + 1)].to_string()),
-    ("links before episodes", |text| text.replace("episodes", "x").replace("links", "episodes").replace('x', "links")),
+const TEXT_FAULTS: [(&str, Alteration); 13] = [
+    ("no newline at the end", |text, _| text.trim_end().to_string()),
+    ("an empty line at the end", |text, _| text + "\n"),
+    ("two spaces", |text, _| text.replacen(' ', "  ", 1)),
+    ("a space at the end of a line", |text, _| text.replace('\n', " \n")),
+    ("a space behind apart alone", |text, _| text.replace("apart\n", "apart \n")),
+    ("carriage returns", |text, _| text.replace('\n', "\r\n")),
+    ("a figure with a zero before it", |text, _| text.replacen(' ', " 0", 1)),
+    ("the place one digit longer", |text, _| text.replacen(" at ", " at 1", 1)),
+    ("14 with the byte count", |text, _| text.replace("refused 14 at 32776", "refused 14 at 32777")),
+    ("no loop line", |text, _| text.split_inclusive('\n').filter(|line| !line.starts_with("loop")).collect()),
+    ("the last line missing", |text, _| text[..text.trim_end().rfind('\n').map_or(0, |end| end + 1)].to_string()),
+    ("links before episodes", |text, _| text.replace("episodes", "x").replace("links", "episodes").replace('x', "links")),
+    ("to words for links", |text, input| {
+        let lines = text.split_inclusive('\n');
+        lines.map(|given| if given.starts_with("links") { line("links", &[to_words(input)]) } else { given.into() }).collect()
+    }),
 ];
 
 /// Whether each text that is right is taken and each altered one is not.
@@ -243,18 +278,27 @@ pub fn faults() -> bool {
     let texts: Vec<String> = inputs.iter().map(|input| right_text(input)).collect();
     let mut good = true;
     for (input, text) in inputs.iter().zip(&texts) {
-        if let Err(what) = judge(input, text) {
+        if let Err(what) = judge(input, text).and_then(|_| judge_wrapped(input, &wrapped(input))) {
             println!("a right text is not taken: {what}");
             good = false;
         }
     }
     println!("text fault | altered texts, all refused");
     for (name, alter) in TEXT_FAULTS {
-        let altered = |text: &String| Some(alter(text.clone())).filter(|other| other != text);
-        let tried: Vec<_> = inputs.iter().zip(&texts).filter_map(|(input, text)| Some((input, altered(text)?))).collect();
-        let taken = tried.iter().filter(|(input, text)| judge(input, text).is_ok()).count();
-        println!("{name} | {}{}", tried.len(), if taken > 0 || tried.is_empty() { "  NOT ALL REFUSED" } else { "" });
-        good &= taken == 0 && !tried.is_empty();
+        let altered = |input, text: &String| Some(alter(text.clone(), input)).filter(|other| other != text);
+        let tried = inputs.iter().zip(&texts).filter_map(|(input, text)| Some(judge(input, &altered(input, text)?)));
+        good &= all_refused(name, tried.collect());
     }
+    let altered = |input: &Vec<u8>| {
+        let report = wrapped(input).ok().filter(|report| report.links != to_words(input))?;
+        Some(judge_wrapped(input, &Ok(Report { links: to_words(input), ..report })))
+    };
+    good & all_refused("to words for links in the wrapper's report", inputs.iter().filter_map(altered).collect())
+}
+
+/// Whether every altered text was refused, and there was one.
+fn all_refused(name: &str, judged: Vec<Result<u32, String>>) -> bool {
+    let good = !judged.is_empty() && judged.iter().all(Result::is_err);
+    println!("{name} | {}{}", judged.len(), if good { "" } else { "  NOT ALL REFUSED" });
     good
 }

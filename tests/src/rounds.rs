@@ -32,6 +32,7 @@ pub fn round<S: Services>(caller: &mut Caller<S>, seed: u64) -> Checked<()> {
     caller.shape = Some(made.shape);
     let subject = Subject::new(made.words);
     caller.read(&subject, random)?;
+    let _ = caller.links(&subject, random)?;
     let (report_need, copy_need) = match subject.reading {
         Ok((n, t)) => (report_need(n), copy_need(t)),
         Err(_) => (random.between(0, 500), random.between(0, 500)),
@@ -112,7 +113,7 @@ fn other_words<S: Services>(caller: &mut Caller<S>, mut words: Vec<u32>, random:
     caller.threads(&words, &parts(&words), &wanted, Asked::OtherWords, random).map(drop)
 }
 
-/// The properties of reports, fair copies and threads across calls, on logs that pass and buffers that suffice.
+/// The properties of reports, fair copies, link counts and threads across calls, on logs that pass and buffers that suffice.
 pub fn properties<S: Services>(caller: &mut Caller<S>, random: &mut Random) -> Checked<()> {
     let (shape, linked) = shapes::passing(random);
     caller.shape = Some(shape);
@@ -149,6 +150,26 @@ pub fn properties<S: Services>(caller: &mut Caller<S>, random: &mut Random) -> C
         return differ(Check::CopyOfCopy, "the copy of the copy is another", &first);
     }
 
+    caller.counts.property(Property::Counted);
+    let count = caller.links(&first, random)?;
+    let most = caller.read(&first, random)?.links;
+    if count != Ok(due.links) || due.links > most {
+        let what = format!("a link count of {count:?}, with {} to words in the copy and {most} in the log", due.links);
+        return differ(Check::ReadCount, &what, &first);
+    }
+    let others = [(&same, "the same links and least pauses"), (&back, "the links of the copy")];
+    for (other, what) in others {
+        if caller.links(other, random)? != count {
+            return differ(Check::SameCount, &format!("{what}, and another link count"), other);
+        }
+    }
+    caller.counts.property(Property::OtherPauses);
+    let paused = linked.links.iter().map(|&(from, to, _)| (from, to, any_pause(random))).collect();
+    let paused = Subject::new(shapes::written(&Linked { n: linked.n, links: paused }, random));
+    if caller.links(&paused, random)? != count {
+        return differ(Check::SameCount, "other pauses, and another link count", &paused);
+    }
+
     let known = |link: &Link| linked.links.iter().any(|&(from, to, _)| (from, to) == *link);
     let free = (0..8).map(|_| (random.below(linked.n.max(1)), random.below(linked.n.max(1)))).find(|link| !known(link));
     if let (Some((from, to)), true) = (free, linked.n > 0 && linked.links.len() < 4_096) {
@@ -159,12 +180,18 @@ pub fn properties<S: Services>(caller: &mut Caller<S>, random: &mut Random) -> C
         if copied(caller, &more, random)?.is_ok_and(|other| other == copy) {
             return differ(Check::OtherCopy, "a link more, and the same copy", &more);
         }
+        if caller.links(&more, random)? != Ok(due.links + 1) {
+            return differ(Check::OtherCount, "a link more, and not one more in the link count", &more);
+        }
     }
     if linked.n < 200 {
         caller.counts.property(Property::EpisodeMore);
         let more = Subject::new(log(linked.n + 1, &linked.links, 2, random));
         if copied(caller, &more, random)?.is_ok_and(|other| other == copy) {
             return differ(Check::OtherCopy, "an episode more, and the same copy", &more);
+        }
+        if caller.links(&more, random)? != count {
+            return differ(Check::SameCount, "an episode more, and another link count", &more);
         }
     }
     if let Some(other) = other_pause(&linked, random) {
@@ -175,6 +202,9 @@ pub fn properties<S: Services>(caller: &mut Caller<S>, random: &mut Random) -> C
         }
         if !alike(&gave, &reported(caller, &other, random)?) {
             return differ(Check::SameReport, "another least pause, and another report", &other);
+        }
+        if caller.links(&other, random)? != count {
+            return differ(Check::SameCount, "another least pause, and another link count", &other);
         }
         match (trimmed::trimmed(caller, &first, random)?, trimmed::trimmed(caller, &other, random)?) {
             (Trimmed::Loop(_), Trimmed::Loop(_)) => {}

@@ -13,7 +13,7 @@ use std::panic::{AssertUnwindSafe, catch_unwind};
 use std::sync::atomic::{AtomicBool, Ordering};
 use std::time::Instant;
 
-pub const DEFAULT_CALLS: u64 = 100_000;
+pub const DEFAULT_CALLS: u64 = 125_000;
 /// How often everything that is counted has to be met, in a run of the default number of calls or more.
 const FLOOR: u64 = 50;
 
@@ -87,12 +87,15 @@ fn checks_of<S: Services>(wanted: &Wanted, services: impl Fn() -> S + Sync) -> b
         wanted.threads,
         grouped((counts.calls as f64 / seconds) as u64),
     );
-    if wanted.older.is_some() {
+    if let Some(older) = wanted.older {
         if counts.beside.is_empty() {
             println!("nothing was compared with the older build");
             return false;
         }
         counts.beside.print();
+        if !older.counts_links() {
+            println!("the older build has no link count, so these calls were not compared");
+        }
     }
     if wanted.calls < DEFAULT_CALLS {
         println!("fewer than {} calls: it is not asked how often everything was met", grouped(DEFAULT_CALLS));
@@ -137,7 +140,7 @@ pub fn one_fault(index: usize) -> bool {
         return false;
     };
     println!("a deliberate fault: {what}");
-    random_calls(Faulty(fault), DEFAULT_CALLS, 1, 0, &AtomicBool::new(false)).1
+    random_calls(Faulty::new(fault), DEFAULT_CALLS, 1, 0, &AtomicBool::new(false)).1
 }
 
 /// The checks that catch a fault within the default number of calls, and after how many.
@@ -159,7 +162,7 @@ fn names(found: &Disagreement) -> Vec<Check> {
 
 /// The properties alone, and the worked cases alone: without the reference.
 fn bare_catch(fault: Fault) -> Vec<Check> {
-    let mut caller = Caller::new(Faulty(fault));
+    let mut caller = Caller::new(Faulty::new(fault));
     caller.bare = true;
     let mut caught = Vec::new();
     for seed in 0..200 {
@@ -178,7 +181,7 @@ fn bare_catch(fault: Fault) -> Vec<Check> {
 
 /// What catches a fault where the library without it is the older build, and the reference is not asked.
 fn older_catch(fault: Fault) -> Vec<Check> {
-    let mut caller = Caller::new(Beside::new(Faulty(fault), Older::linked()));
+    let mut caller = Caller::new(Beside::new(Faulty::new(fault), Older::linked()));
     caller.bare = true;
     random_catch(caller).map_or(Vec::new(), |caught| caught.1)
 }
@@ -193,7 +196,7 @@ pub fn faults() -> bool {
     println!("number | fault | calls | caught by | by properties and worked cases alone");
     for (index, &(fault, what)) in FAULTS.iter().enumerate() {
         let alone = bare_catch(fault);
-        match random_catch(Caller::new(Faulty(fault))) {
+        match random_catch(Caller::new(Faulty::new(fault))) {
             Some((calls, checks)) => {
                 let alone_text = if alone.is_empty() { "-".to_string() } else { listed(&alone) };
                 println!("{index} | {what} | {calls} | {} | {alone_text}", listed(&checks));

@@ -1,4 +1,4 @@
-//! The five services as the checks call them, with answers in the form of the C header.
+//! The six services as the checks call them, with answers in the form of the C header.
 
 use crate::lent::Lent;
 
@@ -46,6 +46,7 @@ pub enum Compared {
 /// The services. They get the buffers with what stands around them, so that a fault can change that too.
 pub trait Services {
     fn read(&mut self, door: Door, log: &mut Lent) -> ReadAnswer;
+    fn links(&mut self, door: Door, log: &mut Lent) -> Answer;
     fn report(&mut self, door: Door, log: &mut Lent, out: &mut Lent, work: &mut Lent) -> Answer;
     fn fair_copy(&mut self, door: Door, log: &mut Lent, out: &mut Lent, work: &mut Lent) -> Answer;
     fn trimmed_copy(&mut self, door: Door, log: &mut Lent, out: &mut Lent, work: &mut Lent) -> Answer;
@@ -64,6 +65,7 @@ pub mod header {
     use super::{Answer, ReadAnswer, ThreadAnswer};
 
     pub type Reading = unsafe extern "C" fn(*const u32, usize) -> ReadAnswer;
+    pub type Counting = unsafe extern "C" fn(*const u32, usize) -> Answer;
     pub type Threading = unsafe extern "C" fn(*const u32, usize, usize) -> ThreadAnswer;
 
     /// A service that writes to a lent output.
@@ -71,6 +73,7 @@ pub mod header {
 
     unsafe extern "C" {
         pub fn zohapy_read(log: *const u32, log_words: usize) -> ReadAnswer;
+        pub fn zohapy_links(log: *const u32, log_words: usize) -> Answer;
         pub fn zohapy_report(
             log: *const u32,
             log_words: usize,
@@ -114,6 +117,18 @@ impl Services for Library {
             Door::Rust => match zohapy::read(log) {
                 Ok(reading) => ReadAnswer { number: 0, place: 0, episodes: reading.episodes, links: reading.links },
                 Err(refusal) => ReadAnswer { number: refusal.number, place: refusal.place, episodes: 0, links: 0 },
+            },
+        }
+    }
+
+    fn links(&mut self, door: Door, log: &mut Lent) -> Answer {
+        let log = log.lent();
+        match door {
+            // SAFETY: the pointer and the length are those of a slice.
+            Door::C => unsafe { header::zohapy_links(log.as_ptr(), log.len()) },
+            Door::Rust => match zohapy::link_count(log) {
+                Ok(count) => Answer { number: 0, value: count },
+                Err(refusal) => Answer { number: refusal.number, value: refusal.place },
             },
         }
     }

@@ -280,7 +280,7 @@ fn add_loops(n: usize, links: &mut Vec<Link>, random: &mut Random) {
 /// Links on 200 episodes, of several kinds; they are cut or repeated to 4,096 afterwards.
 fn full(random: &mut Random) -> Vec<Link> {
     let n = MOST_EPISODES;
-    match random.below(7) {
+    match random.below(9) {
         0 => forward(n, MOST_LINKS, random),
         1 => (0..MOST_LINKS).map(|_| (random.below(n / 2), n / 2 + random.below(n / 2))).collect(),
         2 => (1..n).map(|v| (v - 1, v)).collect(),
@@ -299,6 +299,12 @@ fn full(random: &mut Random) -> Vec<Link> {
                 (from, random.between(from + 1, (from + reach).min(n - 1)))
             };
             (0..count).map(|_| pair(random)).collect()
+        }
+        6 | 7 => {
+            // Different links, as many as there can be.
+            let mut links: Vec<Link> = (1..n).flat_map(|to| (0..to).map(move |from| (from, to))).collect();
+            random.shuffle(&mut links);
+            links
         }
         _ => {
             let count = random.between(1, 400);

@@ -20,6 +20,8 @@ struct Given {
     /// Of each episode, whether each other has a way from it.
     ways: Vec<Vec<bool>>,
     shown: Shown,
+    /// The link count.
+    count: usize,
     copy: Vec<u32>,
 }
 
@@ -35,10 +37,10 @@ pub fn properties<S: Services>(caller: &mut Caller<S>, random: &mut Random) -> C
 
     caller.shape = Some(shape);
     caller.counts.property(Property::SameOutcome);
-    let Some((shown, copy)) = same_outcome(caller, &log, random)? else { return Ok(()) };
+    let Some((shown, count, copy)) = same_outcome(caller, &log, random)? else { return Ok(()) };
     let graph = Graph::of(&log.words);
     let ways = (0..graph.n).map(|v| graph.ways_from(v)).collect();
-    let given = Given { log, linked, graph, ways, shown, copy };
+    let given = Given { log, linked, graph, ways, shown, count, copy };
     let mut found = Found::default();
     copies(caller, &given, &mut found, random)?;
     same_ways(caller, &given, &mut found, random)?;
@@ -55,15 +57,16 @@ pub fn trimmed<S: Services>(caller: &mut Caller<S>, subject: &Subject, random: &
     caller.trimmed_copy(subject, lengths, random)
 }
 
-/// Reading, report and trimmed copy of one log: all have the same refusal; or the last two show a loop, or are given and
-/// come back.
+/// Reading, link count, report and trimmed copy of one log: all have the same refusal; or the last two show a loop; or the
+/// last three are given and come back.
 fn same_outcome<S: Services>(
     caller: &mut Caller<S>,
     subject: &Subject,
     random: &mut Random,
-) -> Checked<Option<(Shown, Vec<u32>)>> {
+) -> Checked<Option<(Shown, usize, Vec<u32>)>> {
     let read = caller.read(subject, random)?;
     let read = (read.number, read.place);
+    let count = caller.links(subject, random)?;
     let report = reported(caller, subject, random)?;
     let trimmed = trimmed(caller, subject, random)?;
     let outcome = match &report {
@@ -71,12 +74,17 @@ fn same_outcome<S: Services>(
         Gave::Loop(_) => "a loop".into(),
         Gave::Report(..) => "a report".into(),
     };
-    match (report, trimmed) {
-        (Gave::Report(shown, _), Trimmed::Copy(copy)) if read.0 == 0 => Ok(Some((shown, copy))),
-        (Gave::Loop(_), Trimmed::Loop(_)) if read.0 == 0 => Ok(None),
-        (Gave::Refused(number, place), Trimmed::Refused(other, at)) if read == (number, place) && read == (other, at) => Ok(None),
-        (_, trimmed) => {
-            let what = format!("reading {} at {}, report {outcome}, trimmed copy {trimmed:X?}", read.0, read.1);
+    match (count, report, trimmed) {
+        (Ok(count), Gave::Report(shown, _), Trimmed::Copy(copy)) if read.0 == 0 => Ok(Some((shown, count, copy))),
+        (Ok(_), Gave::Loop(_), Trimmed::Loop(_)) if read.0 == 0 => Ok(None),
+        (Err(refusal), Gave::Refused(number, place), Trimmed::Refused(other, at))
+            if [refusal, (number, place), (other, at)] == [read; 3] =>
+        {
+            Ok(None)
+        }
+        (count, _, trimmed) => {
+            let (number, place) = read;
+            let what = format!("reading {number} at {place}, link count {count:?}, report {outcome}, trimmed copy {trimmed:X?}");
             let (found, words) = (vec![(Check::SameOutcome, what)], subject.words.clone());
             Err(Box::new(Disagreement { service: "properties", found, lengths: String::new(), words }))
         }
@@ -106,6 +114,10 @@ fn copies<S: Services>(caller: &mut Caller<S>, given: &Given, found: &mut Found,
     let links = if in_order(&given.copy).is_ok() { Graph::of(&given.copy).links.len() } else { 0 };
     let read_due = ReadAnswer { number: 0, place: 0, episodes: given.graph.n, links };
     found.ask(Check::TrimmedWays, read == read_due, || format!("{read:?} of the trimmed copy"));
+    let count = caller.links(&copy, random)?;
+    found.ask(Check::TrimmedCount, count == Ok(read.links) && read.links <= given.count, || {
+        format!("{count:?} for the trimmed copy, which has {} to words, and {} for the log", read.links, given.count)
+    });
     if let Some(what) = checkers::no_same_ways(&given.copy, &given.graph) {
         found.say(Check::TrimmedWays, || what);
     }

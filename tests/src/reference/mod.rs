@@ -1,7 +1,8 @@
-//! The answers that are expected, worked out anew: the questions, the graph of a log, its width, its furthest apart set
-//! and its copies.
+//! The answers that are expected, worked out anew: the questions, the graph of a log, its link count, its width, its
+//! furthest apart set and its copies.
 
 mod copies;
+mod counting;
 mod furthest;
 mod graph;
 mod questions;

@@ -1,10 +1,11 @@
 //! A log with all that is expected of calls on it.
 
 use super::copies::{by_pairs, by_sorting, copy_words};
+use super::counting::{by_all_pairs, by_set};
 use super::furthest::{FEW, FEWER, by_flow, by_subsets, cover_by_unions, is_furthest};
 use super::trimming::{by_search, by_threads};
 use super::{Graph, Refusal, in_order, noted};
-use crate::counts::Pauses;
+use crate::counts::{Links, Pauses};
 use crate::words::{Noted, older};
 use std::cell::OnceCell;
 
@@ -23,7 +24,9 @@ pub struct Passed {
     furthest: OnceCell<Vec<usize>>,
     fair: OnceCell<Vec<u32>>,
     trimmed: OnceCell<Vec<u32>>,
+    count: OnceCell<usize>,
     pauses: OnceCell<Vec<Pauses>>,
+    met: OnceCell<Vec<Links>>,
 }
 
 impl Subject {
@@ -36,7 +39,9 @@ impl Subject {
             furthest: OnceCell::new(),
             fair: OnceCell::new(),
             trimmed: OnceCell::new(),
+            count: OnceCell::new(),
             pauses: OnceCell::new(),
+            met: OnceCell::new(),
         });
         Subject { words, reading, passed }
     }
@@ -52,6 +57,11 @@ impl Passed {
         (!self.has_loop()).then(|| &self.furthest.get_or_init(|| furthest(&self.graph))[..])
     }
 
+    /// The link count.
+    pub fn link_count(&self) -> usize {
+        *self.count.get_or_init(|| link_count(self.graph.n, &self.noted))
+    }
+
     /// The fair copy.
     pub fn fair_copy(&self) -> &[u32] {
         self.fair.get_or_init(|| fair_copy(self.graph.n, &self.noted))
@@ -60,6 +70,11 @@ impl Passed {
     /// The kinds of pauses that the log has, for the counts.
     pub fn pauses(&self) -> &[Pauses] {
         self.pauses.get_or_init(|| Pauses::met(&self.noted))
+    }
+
+    /// The kinds of links that the log, which has these words, has, for the counts.
+    pub fn links(&self, words: &[u32]) -> &[Links] {
+        self.met.get_or_init(|| Links::met(words, self.has_loop()))
     }
 
     /// The trimmed copy; none where there is a loop.
@@ -80,6 +95,15 @@ fn furthest(graph: &Graph) -> Vec<usize> {
         assert_eq!(furthest.len(), cover_by_unions(graph), "the reference: apart set and cover differ");
     }
     furthest
+}
+
+/// The link count.
+fn link_count(n: usize, noted: &[Noted]) -> usize {
+    let count = by_set(noted);
+    if n <= FEW {
+        assert_eq!(count, by_all_pairs(n, noted), "the reference: set and pairs differ");
+    }
+    count
 }
 
 /// The fair copy: each link with its least pause.
