@@ -1,27 +1,12 @@
 -- The episodes that an episode is linked to, and the words of its group.
-use mathlib.Core.Path.{_≡_, refl, ap, sym, ap₂}
-use mathlib.Core.Logic.{_⊎_, inl, inr, ⊎-elim}
-use mathlib.Core.Bool.{Bool, true, false, _&&_, _||_, true≢false, or-true, or-assoc}
-use mathlib.Core.List.{
-  List,
-  [],
-  _∷_,
-  _++_,
-  map-congr-left,
-  List·Memᴰ as Mem,
-  List·Memᴰ·head as here,
-  List·Memᴰ·tail as there,
-  List·Memᴰ·not-nil as not-nil,
-  List·Memᴰ·cases-cons as mem-cases,
-}
+use mathlib.Core.Path.{_≡_, refl, ap}
+use mathlib.Core.List.{List, [], _∷_, _++_, map-congr-left, List·Memᴰ as Mem}
 use Prim.Native.Nat.{ℕ, zero, suc, _+_, _*_, _<_, _≤_}
 use native.Mathlib.Decide.{ℕ-discrete}
 use native.Mathlib.Nat.{ℕ-set}
 use native.Mathlib.Numerals.{add-one}
 use native.Mathlib.Omega.{arith}
-use lib.Dec.{eqb}
 use lib.ListN.{length, length-append, length-map}
-use borrow.Author.Tests.{eqb-true, eq-eqb}
 use Rattle.order.specs.Order.{All}
 use Rattle.paths.specs.Graph.{Graph}
 use Rattle.paths.specs.Links.{linked}

@@ -1,6 +1,5 @@
 // The link count of a log: how many different links it has.
 ghost use mathlib.Core.Path.{_≡_};
-ghost use mathlib.Core.List.{[]};
 ghost use Prim.Native.Nat.{_+_, _/_, _<_, _≤_};
 ghost use lib.ListN.{length, replicate};
 ghost use Rattle.log.specs.Answer.{given, andThen, wordAnswer};

@@ -1,12 +1,9 @@
 -- `link_count::link_count_within` meets its contract: the log is too short, its head is given up, or the loops over its groups stop at a word
 -- that is given up or at its end.
 -- Assumes nothing.
-use mathlib.Core.Path.{_≡_, _∙_, sym, ap, refl}
-use Prim.Native.Nat.{ℕ, _≤_}
+use mathlib.Core.Path.{_∙_, refl}
 use native.Mathlib.Omega.{arith}
 use denote.Ref.{now}
-use lib.ListN.{getD}
-use Rattle.log.specs.Answer.{wordAnswer}
 use Rattle.log.proofs.Whole.{too-short}
 use Rattle.link_count.proofs.Counting.{head-refused, head-few, links-stopped}
 use borrow.Author.Needs.{needs}
