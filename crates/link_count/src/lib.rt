@@ -33,8 +33,8 @@ struct Stop {
     links: usize,
 }
 
-// The place of the first word between head and end that earns a refusal, or else of the last word. The links before it are marked in `seen`, a
-// row of bits for each episode.
+// The place of the first word between head and end that earns a refusal, or else of the last word. The loops are those of the reading; besides, each
+// link before the place is marked in `seen`, a row of bits for each episode, and counted where it was not marked before.
 fn count_to_stop(most: Ceilings, log: &[u32], n: usize, seen: &mut [u32]) -> Stop
     requires { ⌜ (2 ≤ length (now log)) × (n ≤ 256) × (now seen ≡ replicate matrixWords 0) ⌝ }
     ensures { λ r. ⌜ LinksStopped most (now (log .entry)) n (r .place) (r .words) (r .links) ⌝ }

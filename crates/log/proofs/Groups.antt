@@ -122,6 +122,7 @@ module _ (m : Ceilings) (l : List ℕ) (n p t : ℕ) where
             same = sym (step-to m l n p true t (k, x, q) (there .0) (sym all-asked ∙ ap wordAnswer is) (there .1)) ∙ g .same;
           }
 
+      -- it gives its episode
       pub to-episode : (q : ℕ) → r ≡ Taken k x q → (x ≡ toEpisode (getD l p 0)) × (x < n)
       to-episode q is =
           let next : Answer (ℕ × ℕ × ℕ) = question 8 p (ltb t (m .words)) (given (3, toEpisode (getD l p 0), toPause (getD l p 0))) in

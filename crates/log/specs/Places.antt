@@ -1,4 +1,4 @@
--- The questions at a place of a log: what the contracts of the functions behind `read` cite.
+-- The questions at a place of a log: what the contracts of the functions behind `read` and behind the link count cite.
 use mathlib.Core.Path.{_≡_}
 use mathlib.Core.Logic.{_⊎_}
 use mathlib.Core.Bool.{Bool, false}
