@@ -16,7 +16,7 @@ use Rattle.log.specs.Places.{onwardsAt, Stopped}
 use Rattle.log.specs.declared.LogWord.{LogWord}
 use Rattle.log.specs.declared.LogWord.the-variants.{Taken, GivenUp}
 use Rattle.log.specs.declared.Ceilings.{Ceilings}
-use Rattle.log.proofs.Asked.{behind, asked, to-there, there-to, group-to, group-taken, from-given, ToTaken}
+use Rattle.log.proofs.Asked.{behind, asked, to-there, there-to, group-to, group-taken, from-given, FromTaken, ToTaken}
 use Rattle.log.proofs.Places.{word-between, stop-last, stop-refused, step-from, step-to}
 
 -- at `p` a group begins, or the last word stands
@@ -63,46 +63,44 @@ module _ (m : Ceilings) (l : List ℕ) (n p t : ℕ) where
       }
 
   module _ (r : LogWord) (k x : ℕ) where
-    pub from-taken : AtGroup m l n p t → p + 1 < length l → wordAnswer r ≡ groupWord m n p (getD l p 0) (drop (p + 1) l) (ltb 1 p) t
-        → (q : ℕ) → r ≡ Taken k x q → InGroup m l n (p + 1) t × (toBeforeLast l (p + 1) ≡ true)
-    from-taken g h e q is =
-        let passed = sym e ∙ ap wordAnswer is in
-        ⊎-elim
-        (λ taken. (
+    -- of the word where a group begins, 4 to 8 are asked
+    module _ (g : AtGroup m l n p t) (h : p + 1 < length l)
+        (e : wordAnswer r ≡ groupWord m n p (getD l p 0) (drop (p + 1) l) (ltb 1 p) t) where
+      -- it is taken as a from word
+      is-taken : (q : ℕ) → r ≡ Taken k x q → FromTaken n (getD l p 0) (drop (p + 1) l)
+      is-taken q is =
+          ⊎-elim (λ taken. taken) (λ taken. absurd (no-to g h taken))
+          (group-taken m n p (getD l p 0) (drop (p + 1) l) (ltb 1 p) t (k, x, q) (sym e ∙ ap wordAnswer is))
+
+      pub from-taken : (q : ℕ) → r ≡ Taken k x q → InGroup m l n (p + 1) t × (toBeforeLast l (p + 1) ≡ true)
+      from-taken q is =
+          let taken = is-taken q is in (
+            record {
+              behind-from = omega arith;
+              within = h;
+              few = omega arith;
+              same = sym (step-from m l n p (ltb 1 p) t (k, x, q) h (sym e ∙ ap wordAnswer is) (taken .is-from)) ∙ g .same;
+            },
+            sym (behind l (p + 1)) ∙ taken .to-follows,
+          )
+
+      -- it gives its episode
+      pub from-episode : (q : ℕ) → r ≡ Taken k x q → (kind (getD l p 0) ≡ 2) × (x ≡ number (getD l p 0)) × (x < n)
+      from-episode q is =
+          let taken = is-taken q is in
+          let same : _≡_ {A = ℕ × ℕ × ℕ} (k, x, q) (2, number (getD l p 0), 0) =
+          cc (sym e ∙ ap wordAnswer is, from-given m n p (getD l p 0) (drop (p + 1) l) (ltb 1 p) t taken) in
+          let episode : x ≡ number (getD l p 0) = ap (λ (v : ℕ × ℕ × ℕ). v .1) same in
+          (taken .is-from, episode, omega (arith, taken .below))
+
+      pub from-given-up : r ≡ GivenUp k x → Stopped m l n p t
+      from-given-up is =
+          let given-up = sym e ∙ ap wordAnswer is in
           record {
-            behind-from = omega arith;
-            within = h;
-            few = omega arith;
-            same = sym (step-from m l n p (ltb 1 p) t (k, x, q) h passed (taken .is-from)) ∙ g .same;
-          },
-          sym (behind l (p + 1)) ∙ taken .to-follows,
-        ))
-        (λ taken. absurd (no-to g h taken))
-        (group-taken m n p (getD l p 0) (drop (p + 1) l) (ltb 1 p) t (k, x, q) passed)
-
-    -- it gives its episode
-    pub from-episode : AtGroup m l n p t → p + 1 < length l → wordAnswer r ≡ groupWord m n p (getD l p 0) (drop (p + 1) l) (ltb 1 p) t
-        → (q : ℕ) → r ≡ Taken k x q → (kind (getD l p 0) ≡ 2) × (x ≡ number (getD l p 0)) × (x < n)
-    from-episode g h e q is =
-        let passed = sym e ∙ ap wordAnswer is in
-        ⊎-elim
-        (λ taken.
-        let same : _≡_ {A = ℕ × ℕ × ℕ} (k, x, q) (2, number (getD l p 0), 0) =
-        cc (passed, from-given m n p (getD l p 0) (drop (p + 1) l) (ltb 1 p) t taken) in
-        let episode : x ≡ number (getD l p 0) = ap (λ (v : ℕ × ℕ × ℕ). v .1) same in
-        (taken .is-from, episode, omega (arith, taken .below)))
-        (λ taken. absurd (no-to g h taken))
-        (group-taken m n p (getD l p 0) (drop (p + 1) l) (ltb 1 p) t (k, x, q) passed)
-
-    pub from-given-up : AtGroup m l n p t → p + 1 < length l → wordAnswer r ≡ groupWord m n p (getD l p 0) (drop (p + 1) l) (ltb 1 p) t
-        → r ≡ GivenUp k x → Stopped m l n p t
-    from-given-up g h e is =
-        let given-up = sym e ∙ ap wordAnswer is in
-        record {
-          within = g .within;
-          answer = sym (g .same) ∙ stop-refused m l n p (ltb 1 p) t k x h given-up;
-          ended = inr (k, x, word-between m l n p (ltb 1 p) t h ∙ given-up);
-        }
+            within = g .within;
+            answer = sym (g .same) ∙ stop-refused m l n p (ltb 1 p) t k x h given-up;
+            ended = inr (k, x, word-between m l n p (ltb 1 p) t h ∙ given-up);
+          }
 
     -- of a to word behind its group's from word, 7 and 8 are left to ask
     module _ (g : InGroup m l n p t) (is-to : toBeforeLast l p ≡ true)

@@ -42,13 +42,20 @@ use Rattle.paths.specs.Graph.{
   Rising,
   Loop,
 }
+use Rattle.paths.specs.Links as links
 use Rattle.paths.specs.Closure.{WayBelow}
 use Rattle.paths.specs.Trimmed.{Stays, Trimmed, Implied}
+use Rattle.paths.proofs.Links.{linked-mem, mem-linked}
 use Rattle.paths.proofs.Ways.{way-below, below-way, way-first}
 use Rattle.paths.proofs.Numbers.{below, lt-below}
 use Rattle.paths.proofs.Duality.{equal-smallest, equal-largest}
 use Rattle.paths.proofs.Furthest.{Behind, furthest-by-threads}
 use Rattle.paths.proofs.Trimming.{stays-direct, direct-stays}
+
+-- a test that passes is true
+holds : (a : Bool) → T a → a ≡ true
+holds true h = refl
+holds false h = absurd h
 
 -- both, or one of the two
 pub both : (a b : Bool) → T (a && b) → T a × T b
@@ -153,22 +160,16 @@ rises-right (a ∷ b ∷ l) t =
 
 module _ (g : Graph) where
   unfoldable pub linked : ℕ → ℕ → Bool
-  unfolding some
-  linked a b = some (λ l. eqb a (l .0) && eqb b (l .1)) (g .links)
+  unfolding links.linked
+  linked a b = links.linked a b (g .links)
 
   linked-right : (a b : ℕ) → T (linked a b) → Link g a b
   unfolding linked
-  linked-right a b h =
-      let r = some-right (λ (l : ℕ × ℕ). eqb a (l .0) && eqb b (l .1)) (g .links) h in
-      let q = both (eqb a (r .0 .0)) (eqb b (r .0 .1)) (r .2) in
-      let e : a ≡ r .0 .0 = eqb→eq a (r .0 .0) (q .0) in
-      let f : b ≡ r .0 .1 = eqb→eq b (r .0 .1) (q .1) in
-      Memᴰ·cast (λ i. (e i, f i)) (r .1)
+  linked-right a b h = linked-mem a b (g .links) (holds (links.linked a b (g .links)) h)
 
   pub linked-all : (a b : ℕ) → Link g a b → T (linked a b)
   unfolding linked
-  linked-all a b m =
-      some-all (λ (l : ℕ × ℕ). eqb a (l .0) && eqb b (l .1)) (g .links) m (pair (eqb a a) (eqb b b) (eqb-refl a) (eqb-refl b))
+  linked-all a b m = rw (mem-linked a b (g .links) m) tt
 
   -- a way with inner episodes below `k`
   unfoldable pub reaches : ℕ → ℕ → ℕ → Bool

@@ -98,39 +98,40 @@ distinct-nodup (k ∷ ls) = go (linked (k .0) (k .1) ls) refl (distinct-nodup ls
     go true again rest = rest
     go false again rest = nodup-cons (λ m. true≢false (sym (mem-linked (k .0) (k .1) ls (distinct-mem ls m)) ∙ again)) rest
 
--- a list without repeats, of which each member is in another, has at most the different members of that
+-- a list without repeats whose members are all in another is no longer than that
 fewer : (ks ls : List (ℕ × ℕ)) → List·Nodup ks → All (λ l. Mem l ls) ks → length ks ≤ length ls
 fewer = nodup-le (×-discrete ℕ-discrete ℕ-discrete)
 
+-- so it has at most as many as the other has different ones
 module _ (ks ls : List (ℕ × ℕ)) (once : List·Nodup ks) where
   pub listed-few : All (λ l. Mem l ls) ks → length ks ≤ length (distinct ls)
   listed-few h = fewer ks (distinct ls) once (λ l m. mem-distinct ls (h l m))
 
-  -- where they have the same members it has as many
+  -- and just as many where the two have the same members
   pub listed-all : All (λ l. Mem l ls) ks → All (λ l. Mem l ks) ls → length ks ≡ length (distinct ls)
   listed-all h k =
       let most = listed-few h in
       let least = fewer (distinct ls) ks (distinct-nodup ls) (λ l m. k l (distinct-mem ls m)) in
       omega arith
 
--- ---- one link more
+-- ---- one link more: it is among the others, or it counts
 
 module _ (ls : List (ℕ × ℕ)) (a b : ℕ) where
-  both-ways : (l : ℕ × ℕ) → Mem l (ls ++ (a, b) ∷ []) → Mem l ls ⊎ (l ≡ (a, b))
-  both-ways l m = ⊎-elim inl (λ n. inr (eq-of-singleton n)) (append-cases ls m)
+  cases : (l : ℕ × ℕ) → Mem l (ls ++ (a, b) ∷ []) → Mem l ls ⊎ (l ≡ (a, b))
+  cases l m = ⊎-elim inl (λ n. inr (eq-of-singleton n)) (append-cases ls m)
 
   pub distinct-again : Mem {A = ℕ × ℕ} (a, b) ls → length (distinct (ls ++ (a, b) ∷ [])) ≡ length (distinct ls)
   distinct-again m =
       sym (listed-all (distinct ls) (ls ++ (a, b) ∷ []) (distinct-nodup ls)
       (λ l n. Memᴰ·append-left ((a, b) ∷ []) (distinct-mem ls n))
-      (λ l n. ⊎-elim (mem-distinct ls) (λ e. mem-distinct ls (Memᴰ·cast e m)) (both-ways l n)))
+      (λ l n. ⊎-elim (mem-distinct ls) (λ e. mem-distinct ls (Memᴰ·cast e m)) (cases l n)))
 
   pub distinct-new : (Mem {A = ℕ × ℕ} (a, b) ls → ⊥) → length (distinct (ls ++ (a, b) ∷ [])) ≡ length (distinct ls) + 1
   distinct-new new =
       let all =
       listed-all ((a, b) ∷ distinct ls) (ls ++ (a, b) ∷ []) (nodup-cons (λ m. new (distinct-mem ls m)) (distinct-nodup ls))
       (λ l n. ⊎-elim (λ e. Memᴰ·append-right ls (here e)) (λ o. Memᴰ·append-left ((a, b) ∷ []) (distinct-mem ls o)) (mem-cases n))
-      (λ l n. ⊎-elim (λ o. there (mem-distinct ls o)) here (both-ways l n)) in
+      (λ l n. ⊎-elim (λ o. there (mem-distinct ls o)) here (cases l n)) in
       omega arith
 
 -- ---- of graphs
