@@ -83,14 +83,14 @@ def declared(root):
     return turned, found
 
 
-def turn(text, table, skip):
-    """Turns the words of the table, but for those in skip and those right behind `tie.`, `goal.`, `c.` or `.before.`, which the check makes."""
+def turn(text, table, skip, made=r"(?!)"):
+    """Turns the words of the table, but for those in skip, and those right behind what `made` fits, which the check makes."""
     out, at = [], 0
     for m in WORD.finditer(text):
         word = m[0]
         if word in table and word not in skip:
             before = text[max(0, m.start() - 8) : m.start()]
-            if not re.search(r"(?:^|[^\w-])(?:tie|goal|c)\.$|\.before\.$", before):
+            if not re.search(made, before):
                 out += [text[at : m.start()], table[word]]
                 at = m.end()
     return "".join(out) + text[at:]
@@ -147,7 +147,8 @@ def main(root):
             if table[name] in here and name not in skip and path.endswith(".antt"):
                 print(f"look: {path}: {name} becomes {table[name]}, which stands here already")
         here = {**table, **INSTEAD} if path.endswith(NAMED_IN) else table
-        new = turn(text, here, skip) if path.endswith(".antt") else clauses(text, table, skip)
+        made = r"(?:^|[^\w-])(?:tie|goal|c)\.$|\.before\.$" if path.endswith("/Proof.antt") else r"(?!)"
+        new = turn(text, here, skip, made) if path.endswith(".antt") else clauses(text, table, skip)
         if new != text:
             write(path, new)
     crate_log(root)

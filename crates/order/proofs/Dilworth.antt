@@ -369,6 +369,7 @@ module _ {A : Type 0} {R : A → A → Type 0} (dec : Discrete A) (decR : (a b :
           too_few few d.is_antichain (omega arith) d.within
 
       cut_all : (c : List A) → Chain R c → Few R (without dec c Y) (length d.chains) → (h : A) × Cut R dec Y (length d.chains) c h
+      cut_all [] chain few = elim chain [ ]
       cut_all (x ∷ D) chain few = cut Y (length d.chains) smaller_Y not_few (x ∷ D) x D chain (λ y n. n) few
 
       hs : Heads R dec Y (length d.chains) d.chains

@@ -69,8 +69,8 @@ module _ {g : Graph} where
       back : Smallest g ts × Largest g s → length ts ≡ length s
       back (smallest, largest) =
           let c = certificate ends acyclic in
-          let few : length ts ≤ length c.threads = smallest c.threads c.is-cover in
-          let many : length c.apart ≤ length s = largest c.apart c.is-apart in
+          let few : length ts ≤ length c.threads = smallest c.threads c.is_cover in
+          let many : length c.apart ≤ length s = largest c.apart c.is_apart in
           let weak : length s ≤ length ts = weak_duality ts s cover apart in
           let same : length c.threads ≡ length c.apart = c.same in
           omega arith

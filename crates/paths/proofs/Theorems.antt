@@ -69,7 +69,7 @@ pub equal_pair : (g : Graph) → EndsBelow g → Acyclic g
     → (ts : List (List ℕ)) × (s : List ℕ) × Cover g ts × Apart g s × (length ts ≡ length s)
 equal_pair g ends acyclic =
     let c = Duality.certificate ends acyclic in
-    (c.threads, c.apart, c.is-cover, c.is-apart, c.same)
+    (c.threads, c.apart, c.is_cover, c.is_apart, c.same)
 
 -- 5. Duality: of a cover and an apart set the numbers are equal exactly when no cover has fewer threads and no apart set more members.
 pub duality : (g : Graph) → EndsBelow g → Acyclic g → (ts : List (List ℕ)) (s : List ℕ) → Cover g ts → Apart g s

@@ -220,8 +220,8 @@ module _ {g h : Graph} (ge : EndsBelow g) (he : EndsBelow h) (acyclic : Acyclic 
   width_there (ts, cover, smallest, size) =
       let c = certificate ge acyclic in
       let d = certificate he (ways_acyclic s acyclic) in
-      let few : length ts ≤ length c.threads = smallest c.threads c.is-cover in
-      let over : length c.apart ≤ length d.threads = weak_duality d.threads c.apart d.is_cover ((ways_apart s c.apart).0 c.is-apart) in
+      let few : length ts ≤ length c.threads = smallest c.threads c.is_cover in
+      let over : length c.apart ≤ length d.threads = weak_duality d.threads c.apart d.is_cover ((ways_apart s c.apart).0 c.is_apart) in
       let back : length d.apart ≤ length ts = weak_duality ts d.apart cover ((ways_apart s d.apart).1 d.is_apart) in
       (d.threads, d.is_cover, equal_smallest d.threads d.apart d.is_apart d.same, omega (arith, c.same, d.same))
 
