@@ -1,4 +1,6 @@
 // Rows of bits in lent words: 8 words, 256 bits, to a row.
+#![tactic(auto)]
+
 ghost use Rattle.std.specs.Prelude.{◌≡◌, ℕ, ◌+◌, ◌-◌, ◌*◌, ◌/◌, ◌<◌, ◌≤◌, length, get_or, replicate};
 ghost use Rattle.bits.specs.Bits.{digit, bit, BitSet, RowJoined, RowAdded, RowGained, RowCopied, FirstBit, NextNew};
 

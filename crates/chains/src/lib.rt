@@ -1,5 +1,7 @@
 // Chains of items in the work words: first pairs as they come, then an augmenting search from the end of each chain, which joins it to another.
 // What a search has seen in vain is dead: no later search looks at it.
+#![tactic(auto)]
+
 ghost use Rattle.std.specs.Prelude.{◌≡◌, ℕ, ◌+◌, ◌<◌, ◌≤◌, length, get_or};
 ghost use Rattle.bits.specs.Work.{next_at, via_at, used_words};
 ghost use Rattle.searching.specs.Items.{Pairing};

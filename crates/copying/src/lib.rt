@@ -1,5 +1,7 @@
 // The fair copy of a log, block by block: the links from 64 episodes are marked in one pass over the log, in a row of 256 words for each
 // episode; then the marked ones are written, row by row.
+#![tactic(auto)]
+
 ghost use Rattle.std.specs.Prelude.{◌≡◌, ◌≢◌, true, false, ℕ, ◌/◌, ◌%◌, ◌^◌, ◌<◌, ◌≤◌, length, get_or, replicate, set};
 ghost use Rattle.logs.specs.Words.{word, Small};
 ghost use Rattle.logs.specs.Content.{least_pause};
@@ -125,7 +127,7 @@ pub fn group_words(links: usize) -> usize
 }
 
 // How many words have been written, and the links among them.
-#[derive(Drop)]
+#[derive(Clone, Copy)]
 pub struct Written {
     pub words: usize,
     pub links: usize,

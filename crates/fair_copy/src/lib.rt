@@ -1,4 +1,6 @@
 // The fair copy of a log.
+#![tactic(auto)]
+
 ghost use Rattle.std.specs.Prelude.{◌≡◌, ◌≤◌, length, replicate};
 ghost use Rattle.logs.specs.Answer.{read_answer};
 ghost use Rattle.logs.specs.Log.{service, content_of, graph_of, PassedLog};
@@ -11,7 +13,7 @@ use logs::{Ceilings, Reading};
 
 // The outcome of a fair copy call: a copy with its count of words, or a refusal with its number and place. The words of a copy stay in the
 // lent output.
-#[derive(Drop)]
+#[derive(Clone, Copy)]
 pub enum CopyOutcome {
     Copied(usize),
     Refused(u32, usize),

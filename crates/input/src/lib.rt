@@ -1,4 +1,6 @@
 // The bytes of a log as words: questions 14 and 15, and 11 of the lent words.
+#![tactic(auto)]
+
 ghost use Rattle.std.specs.Prelude.{◌≡◌, ◌++◌, ◌+◌, ◌*◌, ◌<◌, ◌≤◌, length, drop};
 ghost use Rattle.input.specs.Input.{words_of, word_at, WordsTaken};
 
@@ -6,7 +8,7 @@ ghost use Rattle.input.specs.Input.{words_of, word_at, WordsTaken};
 pub const MOST_BYTES: usize = 32776;
 
 // The bytes taken: the count of their words, or the number and place of the refusal.
-#[derive(Drop)]
+#[derive(Clone, Copy)]
 pub enum Taken {
     Words(usize),
     Refused(u32, usize),

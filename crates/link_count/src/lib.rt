@@ -1,4 +1,6 @@
 // The link count of a log: how many different links it has.
+#![tactic(auto)]
+
 ghost use Rattle.std.specs.Prelude.{◌≡◌, ◌+◌, ◌/◌, ◌<◌, ◌≤◌, length, replicate};
 ghost use Rattle.logs.specs.Answer.{given, and_then, word_answer};
 ghost use Rattle.logs.specs.Log.{service};
@@ -9,7 +11,7 @@ ghost use Rattle.link_count.specs.Counted.{count_answer, count_asked, LinksStopp
 use logs::{Ceilings, LogWord};
 
 // The link count of a log, or the number and place of its refusal.
-#[derive(Drop)]
+#[derive(Clone, Copy)]
 pub enum LinkCount {
     Counted(usize),
     Refused(u32, usize),
@@ -26,7 +28,7 @@ fn mark(seen: &mut [u32], row: usize, to: usize) -> usize
 }
 
 // A place of the log, and the counts of to words and of different links before it.
-#[derive(Drop)]
+#[derive(Clone, Copy)]
 struct Stop {
     place: usize,
     words: usize,

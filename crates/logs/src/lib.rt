@@ -1,4 +1,6 @@
 // The reading of a log: questions 1 to 10.
+#![tactic(auto)]
+
 ghost use Rattle.std.specs.Prelude.{◌≡◌, false, ◌+◌, ◌<◌, ◌≤◌, ltb, length, get_or, drop};
 ghost use Rattle.logs.specs.Words.{kind, number, to_episode, to_pause};
 ghost use Rattle.logs.specs.Answer.{given, question, and_then, word_answer, read_answer};
@@ -7,7 +9,7 @@ ghost use Rattle.logs.specs.Places.{log_word_at, Stopped};
 ghost use Rattle.logs.specs.Groups.{ToWords};
 
 // The most episodes and the most to words that a caller takes.
-#[derive(Drop)]
+#[derive(Clone, Copy)]
 pub struct Ceilings {
     pub episodes: usize,
     pub words: usize,
@@ -15,14 +17,14 @@ pub struct Ceilings {
 
 // A log word: its kind, its number, which of a to word is its episode, and its pause, which only a to word has; or the number and place of
 // the refusal that it earns.
-#[derive(Drop)]
+#[derive(Clone, Copy)]
 pub enum LogWord {
     Taken(u32, usize, u32),
     GivenUp(u32, usize),
 }
 
 // A log: its count of episodes and of to words, or the number and place of its refusal.
-#[derive(Drop)]
+#[derive(Clone, Copy)]
 pub enum Reading {
     Passed(usize, usize),
     Refused(u32, usize),
@@ -41,7 +43,7 @@ pub fn number_of(w: u32) -> usize
 }
 
 // A to word: its later episode and its pause in minutes.
-#[derive(Drop)]
+#[derive(Clone, Copy)]
 pub struct ToWord {
     pub episode: usize,
     pub pause: u32,
@@ -188,7 +190,7 @@ pub fn log_word(
 }
 
 // A place of the log, and the count of to words before it.
-#[derive(Drop)]
+#[derive(Clone, Copy)]
 struct Stop {
     place: usize,
     count: usize,

@@ -1,4 +1,6 @@
 // A report's words taken apart: whether they are a whole report, and where its threads stand.
+#![tactic(auto)]
+
 ghost use Rattle.std.specs.Prelude.{◌≡◌, ◌<◌, ◌≤◌, length, get_or};
 ghost use Rattle.logs.specs.Words.{number};
 ghost use Rattle.parsing.specs.Whole.{HasThread};

@@ -236,6 +236,7 @@ longer_paths_count = (
     next c (there (here e)) = let none : ◌≡◌ {A = ℕ} 0 1 = ap first e in absurd (omega arith)
     next c (there (there (here e))) = let none : ◌≡◌ {A = ℕ} 0 2 = ap first e in absurd (omega arith)
     next c (there (there (there (here e)))) = inr (ap second e)
+    next c (there (there (there (there x16)))) = elim x16 [ ]
 
 -- link counts: of no links; of a link given twice, at once and after another one; of two links that differ in their direction alone; and of a link
 -- from an episode to itself, given twice

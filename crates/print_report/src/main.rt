@@ -1,4 +1,6 @@
 // Prints the report on the log whose bytes stand on standard input, or its refusal.
+#![tactic(auto)]
+
 mod show;
 mod stdin;
 

@@ -1,1 +1,2 @@
 // No code: what is promised of the services is proved from their contracts alone.
+#![tactic(auto)]

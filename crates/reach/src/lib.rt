@@ -1,4 +1,6 @@
 // Who has a way to whom: the links of a log as a matrix of bits, and its closure.
+#![tactic(auto)]
+
 ghost use Rattle.std.specs.Prelude.{◌≡◌, true, false, ◌+◌, ◌*◌, ◌<◌, ◌≤◌, length};
 ghost use Rattle.logs.specs.Log.{to_before_last, graph_of, PassedLog};
 ghost use Rattle.logs.specs.Groups.{nearest_from};

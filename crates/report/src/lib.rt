@@ -1,4 +1,6 @@
 // The report on a log.
+#![tactic(auto)]
+
 ghost use Rattle.std.specs.Prelude.{◌≡◌, List, ℕ, ◌+◌, ◌<◌, ◌≤◌, length, replicate};
 ghost use Rattle.paths.specs.Graph.{Graph, Loop};
 ghost use Rattle.logs.specs.Log.{service, graph_of, PassedLog};
@@ -11,7 +13,7 @@ use logs::{Ceilings, Reading};
 
 // The outcome of a report call: a report with its count of words, a loop with its length, or a refusal with its number and place. The
 // words of a report or a loop stay in the lent output.
-#[derive(Drop)]
+#[derive(Clone, Copy)]
 pub enum Outcome {
     Report(usize),
     Loop(usize),

@@ -1,4 +1,6 @@
 // The ways of links that rise: from the last episode to the first.
+#![tactic(auto)]
+
 ghost use Rattle.std.specs.Prelude.{◌≡◌, ℕ, ◌+◌, ◌*◌, ◌<◌, ◌≤◌, length};
 ghost use Rattle.bits.specs.Work.{links_at, ways_at, next_at};
 ghost use Rattle.rising.specs.Rising.{NoWays, RiseTest, EndsTaken, RowReached, LinkNoted, RisingReached};

@@ -1,4 +1,6 @@
 // Chains of items in the work words, and an augmenting search from the end of one of them.
+#![tactic(auto)]
+
 ghost use Rattle.std.specs.Prelude.{◌≡◌, ◌<◌, ◌≤◌, length};
 ghost use Rattle.bits.specs.Work.{used_words};
 ghost use Rattle.searching.specs.State.{tables, ForgottenIn, PutIn, SawIn, ShowAsked, ShownIn, SearchedIn, FlipAsked, FlippedIn, Extendable};
@@ -38,7 +40,7 @@ fn see(w: &mut [u32], head: usize, b: usize, tail: usize)
 }
 
 // An item and the end of the queue.
-#[derive(Drop)]
+#[derive(Clone, Copy)]
 struct Shown {
     item: usize,
     tail: usize,

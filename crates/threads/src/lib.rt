@@ -1,4 +1,6 @@
 // The steps of one thread of a report.
+#![tactic(auto)]
+
 ghost use Rattle.parsing.specs.Whole.{ThreadNumber, ThreadSteps, ThreadStretch};
 
 // The number that asking for thread `i` of a report's words gives: 0, 16 where they are no whole report, or 17 where it has no thread `i`.
@@ -18,7 +20,7 @@ pub fn thread_number(report: &[u32], i: usize) -> u32
 
 // Where the steps of thread `i` stand in the report's words: from `start` on and before `end`. The stretch is empty where `thread_number`
 // refuses.
-#[derive(Drop)]
+#[derive(Clone, Copy)]
 pub struct Stretch {
     pub start: usize,
     pub end: usize,

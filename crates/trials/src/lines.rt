@@ -41,7 +41,7 @@ fn digit_of(b: u8) -> u32
 }
 
 // A number, or nothing where there is none.
-#[derive(Drop)]
+#[derive(Clone, Copy)]
 enum Number {
     Of(usize),
     Nothing,

@@ -9,7 +9,7 @@ use report::Outcome;
 use trimmed_copy::TrimOutcome;
 
 // The services that write to a lent output.
-#[derive(Drop)]
+#[derive(Clone, Copy)]
 pub enum Service {
     Report,
     FairCopy,

@@ -1,4 +1,6 @@
 // The trimmed copy of a log.
+#![tactic(auto)]
+
 ghost use Rattle.std.specs.Prelude.{◌≡◌, ◌<◌, length, replicate};
 ghost use Rattle.paths.specs.Graph.{Graph};
 ghost use Rattle.logs.specs.Log.{service, graph_of, PassedLog};
@@ -11,7 +13,7 @@ use logs::{Ceilings, Reading};
 
 // The outcome of a trimmed copy call: a copy with its count of words, a loop with its length, or a refusal with its number and place. The
 // words of a copy or a loop stay in the lent output.
-#[derive(Drop)]
+#[derive(Clone, Copy)]
 pub enum TrimOutcome {
     Trimmed(usize),
     Loop(usize),

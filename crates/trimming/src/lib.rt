@@ -1,4 +1,6 @@
 // The trimmed copy of a log, row by row: what the ways of an episode's links hold together is implied, and its links less that are written.
+#![tactic(auto)]
+
 ghost use Rattle.std.specs.Prelude.{◌≡◌, Bool, List, ℕ, ◌+◌, ◌*◌, ◌<◌, ◌≤◌, length, replicate};
 ghost use Rattle.paths.specs.Graph.{Graph};
 ghost use Rattle.paths.specs.Passing.{passing};

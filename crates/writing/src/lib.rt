@@ -1,4 +1,6 @@
 // Writes the words of a report or of a loop, from the chains in the work words.
+#![tactic(auto)]
+
 ghost use Rattle.std.specs.Prelude.{◌≡◌, List, ◌∷◌, ℕ, ◌+◌, ◌*◌, ◌-◌, ◌<◌, ◌≤◌, length};
 ghost use Rattle.paths.specs.Graph.{Graph, Thread, Loop};
 ghost use Rattle.bits.specs.Bits.{bit};

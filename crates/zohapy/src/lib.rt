@@ -1,4 +1,6 @@
 // The six services for C and Rust: exported functions, which answer in plain numbers.
+#![tactic(auto)]
+
 ghost use Rattle.std.specs.Prelude.{◌≡◌};
 ghost use Rattle.logs.specs.Log.{service, questions};
 ghost use Rattle.link_count.specs.Counted.{count_asked};
@@ -15,7 +17,7 @@ const LOOP: u32 = 13;
 
 // A reading: number 0 with n and the count of to words, or a refusal's number and place. What is not given is 0.
 #[repr(C)]
-#[derive(Drop)]
+#[derive(Clone, Copy)]
 pub struct ReadAnswer {
     pub number: u32,
     pub place: usize,
@@ -25,7 +27,7 @@ pub struct ReadAnswer {
 
 // A report, a loop, a copy or a link count: number 0 with the count of words or of links, or a refusal's number and place.
 #[repr(C)]
-#[derive(Drop)]
+#[derive(Clone, Copy)]
 pub struct Answer {
     pub number: u32,
     pub value: usize,
@@ -33,7 +35,7 @@ pub struct Answer {
 
 // The steps of a thread: number 0 with the place of the first and how many there are, or a refusal's number, 0 and 0.
 #[repr(C)]
-#[derive(Drop)]
+#[derive(Clone, Copy)]
 pub struct ThreadAnswer {
     pub number: u32,
     pub start: usize,
