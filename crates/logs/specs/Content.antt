@@ -1,6 +1,6 @@
 -- What a log tells, apart from its words: the episodes, and the links that were heard, each with a pause. The graph follows from it.
 use Rattle.std.specs.Prelude.{◌≡◌, ◌↔◌, ℕ, ◌≤◌, min}
-use Rattle.std.proofs.Math.Logic.{Dec·and}
+use Rattle.std.proofs.Math.Logic.Dec
 use mathlib.Core.List.{List, [], ◌∷◌, map, filter, Memᴰ as Mem}
 use Rattle.std.proofs.Math.Decide.{ℕ_discrete}
 use Rattle.paths.specs.Graph.{Graph}
@@ -45,7 +45,7 @@ pub record SameContent (c d : Content) : Type 0 where
 
 -- the pauses that were heard of the link from `a` to `b`, in the order read
 unfoldable pub pauses_of : ℕ → ℕ → List Heard → List ℕ
-pauses_of a b hs = map (λ (h : Heard). h.pause) (filter (λ (h : Heard). Dec·and (ℕ_discrete a h.from) (ℕ_discrete b h.to)) hs)
+pauses_of a b hs = map (λ (h : Heard). h.pause) (filter (λ (h : Heard). Dec.and (ℕ_discrete a h.from) (ℕ_discrete b h.to)) hs)
 
 -- the least of some numbers; 0 of none
 unfoldable pub least : List ℕ → ℕ
