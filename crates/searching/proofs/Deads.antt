@@ -26,7 +26,7 @@ reached_more : {m k l b : ℕ} {R : ℕ → ℕ → Type 0} {next : ℕ → ℕ}
 reached_more le x = reached_within (λ a b al bl (h, r). (λ e. omega (arith, h e), r)) x
 
 -- in the same chains
-reached_same : {m k b : ℕ} {R : ℕ → ℕ → Type 0} {next next' : ℕ → ℕ} → ((a : ℕ) → a < m → next' a ≡ next a)
+reached_same : {m k : ℕ} {R : ℕ → ℕ → Type 0} {next next' : ℕ → ℕ} {b : ℕ} → ((a : ℕ) → a < m → next' a ≡ next a)
     → Reached m (Before k next R) next b → Reached m (Before k next' R) next' b
 reached_same s (from_end {a = a} al bl e (h, r)) = from_end al bl (s a al ∙ e) (λ z. h e, r)
 reached_same s (from_next {a = a} al bl cl e g (h, r)) =
