@@ -1,0 +1,45 @@
+use mathlib.Core.Path.{sym, ◌∙◌}
+use Prim.Native.Nat.{◌-◌}
+use native.Mathlib.Omega.{arith}
+use lib.ListN.{length-set}
+use Rattle.searching.specs.Items.{member_test}
+use Rattle.searching.specs.State.{tables}
+use Rattle.logs.specs.Words.{word}
+use Rattle.writing.proofs.Listing.{listing_none, listing_more, listing_same}
+use Rattle.writing.proofs.Apart.{apart_done}
+use Rattle.writing.proofs.write_apart.Goals as goal
+use Rattle.writing.proofs.write_apart.Goals.{then-is_member, else-is_member}
+
+pub loop-v-init : goal.loop-v-init
+loop-v-init c =
+    let a = c.args in
+    listing_none (member_test (tables a.w.now)) (word 5) a.out.now a.n (omega arith)
+
+pub is_member-requires : goal.is_member-requires
+is_member-requires c =
+    let h = c.requires.2.next_le c.loop-v.v (omega arith) in
+    (omega arith, omega arith, omega arith)
+
+pub loop-v-preserved : goal.loop-v-preserved
+loop-v-preserved c =
+    let a = c.args in
+    let at = c.loop-v in
+    let test = sym c.is_member.ensures in
+    elim c.if-is_member.branch [
+      | then-is_member p ↦
+          rw (p.k-is, p.out-is)
+          (listing_more (member_test (tables a.w.now)) (word 5) a.out.now at.out a.n at.k at.v at.invariant (omega arith)
+          (omega (arith, at.invariant.few)) (test ∙ p.if-is_member.true))
+      | else-is_member p ↦
+          rw (p.k-is, p.out-is)
+          (listing_same (member_test (tables a.w.now)) (word 5) a.out.now at.out a.n at.k at.v at.invariant (omega arith) (test ∙ p.if-is_member.false))
+    ]
+
+pub shape_of-out : goal.shape_of-out
+shape_of-out c = simp length-set c.loop-v.invariant.same_length
+
+pub returns : goal.returns
+returns c =
+    let a = c.args in
+    let at = c.loop-v in
+    apart_done a.w.now a.out.now at.out a.n at.k at.v at.invariant (omega arith)

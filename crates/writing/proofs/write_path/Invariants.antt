@@ -1,0 +1,15 @@
+-- `writing::write_path` meets its contract. The invariant, `Stepping`: what is written are the steps behind `c` of a path to `at`, and `at` has a
+-- way to `b`. The measure is what is left of n.
+-- Assumes nothing.
+use mathlib.Core.Path.{◌≡◌}
+use Prim.Native.Nat.{◌+◌, ◌-◌, ◌*◌}
+use Rattle.bits.specs.Bits.{bit}
+use Rattle.bits.specs.Work.{ways_at}
+use Rattle.writing.proofs.Stepping.{Stepping}
+use Rattle.writing.proofs.write_path.Given as goal
+
+abbrev pub invariant-loop-at : goal.invariant-loop-at
+invariant-loop-at l = Stepping l.w l.n l.c l.initial.out l.out l.at l.count × (bit l.w (ways_at + 8 * l.at) l.b ≡ 1)
+
+abbrev pub decreases-loop-at : goal.decreases-loop-at
+decreases-loop-at l = l.n - l.count
