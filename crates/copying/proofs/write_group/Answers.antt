@@ -1,0 +1,78 @@
+use Prim.Native.Nat.{◌+◌, ◌-◌, ◌≤◌, ◌<◌, ◌^◌}
+use native.Mathlib.Omega.{arith}
+use lib.ListN.{length, get_or, length-set}
+use Rattle.logs.specs.Words.{to_word}
+use Rattle.logs.proofs.Words.{to_sum}
+use Rattle.writing.proofs.Listing.{listing_none, listing_more, listing_same}
+use Rattle.copying.specs.Copying.{marked_at, pause_at}
+use Rattle.copying.proofs.Groups.{is_marked, not_marked, marked_room, group_links_lem, group_no_links}
+use Rattle.copying.proofs.write_group.Goals as goal
+use Rattle.copying.proofs.write_group.Goals.{then-mark-ne0, else-mark-ne0}
+
+pub loop-b-init : goal.loop-b-init
+loop-b-init c =
+    let row = c.args.row.now in
+    listing_none (marked_at row) (λ b. to_word b (pause_at row b)) c.args.out.now (length row) (omega arith)
+
+-- a mark holds a pause that fits a to word
+short : (c : goal.Then-mark-ne0) → get_or c.args.row.now c.loop-b.b 0 ≤ 2 ^ 12
+short c = c.requires.3 c.loop-b.b (omega arith)
+
+-- the group has room for its to word
+room : (c : goal.Then-mark-ne0) → c.loop-b.links + 1 < length c.loop-b.out
+room c =
+    let a = c.args in
+    let at = c.loop-b in
+    let more = marked_room a.row.now a.a at.b (omega arith) (λ e. omega arith) in
+    omega arith
+
+pub overflow_mul-out : goal.overflow_mul-out
+overflow_mul-out c = omega (arith, short c)
+
+pub overflow_add-out : goal.overflow_add-out
+overflow_add-out c = omega (arith, short c)
+
+pub overflow_add-out-then-mark-ne0 : goal.overflow_add-out-then-mark-ne0
+overflow_add-out-then-mark-ne0 c = omega (arith, short c)
+
+pub offset_bounds-out-links : goal.offset_bounds-out-links
+offset_bounds-out-links c = omega (arith, room c)
+
+pub bounds-out-links : goal.bounds-out-links
+bounds-out-links c = room c
+
+pub loop-b-preserved : goal.loop-b-preserved
+loop-b-preserved c =
+    let a = c.args in
+    let at = c.loop-b in
+    let row = a.row.now in
+    elim c.if-mark-ne0.branch [
+      | then-mark-ne0 p ↦
+          let marked = is_marked row at.b (λ e. omega (arith, p.if-mark-ne0.true)) in
+          let more = marked_room row a.a at.b (omega arith) (λ e. omega (arith, p.if-mark-ne0.true)) in
+          rw (p.links-is, p.out-is)
+          (rw (← to_sum at.b (pause_at row at.b)) at
+          (listing_more (marked_at row) (λ b. to_word b (pause_at row b)) a.out.now at.out (length row) at.links at.b at.invariant (omega arith)
+          (omega (arith, at.invariant.size)) marked))
+      | else-mark-ne0 p ↦
+          rw (p.links-is, p.out-is)
+          (listing_same (marked_at row) (λ b. to_word b (pause_at row b)) a.out.now at.out (length row) at.links at.b at.invariant (omega arith)
+          (not_marked row at.b (omega (arith, p.if-mark-ne0.false))))
+    ]
+
+pub shape_of-out-then-links-ne0 : goal.shape_of-out-then-links-ne0
+shape_of-out-then-links-ne0 c = simp length-set c.loop-b.invariant.same_length
+
+pub returns-then-links-ne0 : goal.returns-then-links-ne0
+returns-then-links-ne0 c =
+    let a = c.args in
+    let at = c.loop-b in
+    let row = a.row.now in
+    group_links_lem (marked_at row) (pause_at row) a.out.now at.out (length row) at.links at.b at.invariant (omega arith) a.a (λ e. omega arith)
+
+pub returns-else-links-ne0 : goal.returns-else-links-ne0
+returns-else-links-ne0 c =
+    let a = c.args in
+    let at = c.loop-b in
+    let row = a.row.now in
+    group_no_links (marked_at row) (pause_at row) a.out.now at.out (length row) at.links at.b at.invariant (omega arith) a.a (omega arith) (omega arith)
