@@ -15,6 +15,8 @@ import sys
 WORD = re.compile(r'[^\s(){}.;,@"«»`]+')
 DECLARED = re.compile(r"(?m)^ *(?:(?:pub|abbrev|unfoldable|pattern) )*([^\s(){}.;,@\"«»]+)(?: \{[^{}\n]*\})* :(?= |$)")
 USE = re.compile(r"(?m)\buse ([^\s;{]+)(\{[^;}]*\})?")
+# Fields that may have a definition's name.
+FIELDS = ("link-count", "behind-head")
 # Two lemmas whose plain spelling is that of the definition `toWord`, by the files that name them.
 INSTEAD = {"to_word": "to_word_below", "from-word": "from_word_below"}
 NAMED_IN = ("crates/log/proofs/Laws.antt", "crates/log/proofs/Walk.antt", "crates/reach/proofs/Marks.antt", "crates/copying/proofs/GroupLinks.antt")
@@ -72,7 +74,7 @@ def declared(root):
             found.add(m[1])
     turned = {name: snake(name) for name in sorted(found) if re.match("[a-z]", name) and snake(name) != name and not name.startswith("the-")}
     definitions = {new for old, new in turned.items() if "-" not in old}
-    turned = {old: new + "_lem" if "-" in old and new in definitions else new for old, new in turned.items()}
+    turned = {old: new + "_lem" if "-" in old and new in definitions and old not in FIELDS else new for old, new in turned.items()}
     met = {}
     for old, new in turned.items():
         if new in found and new not in INSTEAD:

@@ -100,7 +100,7 @@ module _ {pause : ℕ → ℕ → ℕ} {g : Graph} {o o' : List ℕ} {words link
       let all : a ≡ g.n = omega (arith, s.item) in
       record {
         count = rw all at s.size;
-        link_count_lem = rw all at s.count;
+        link_count = rw all at s.count;
         begins = subst (λ (k : ℕ). BeginsWith (get_or o 0 0 ∷ groups pause g k) o o') all s.begins;
       }
 
@@ -122,6 +122,6 @@ module _ (pause : ℕ → ℕ → ℕ) (g : Graph) (o o' : List ℕ) (words link
       rw (← e) (begins_first (get_or o 0 0) (word 1 g.n) (groups pause g g.n) o o' s.begins) in (
         omega arith,
         subst (λ (k : ℕ). BeginsWith (word 1 g.n ∷ groups pause g g.n ++ word 15 k ∷ []) o (set (set o' 0 (word 1 n)) words (word 15 links)))
-            s.link_count_lem
+            s.link_count
             (begins_more (word 1 g.n ∷ groups pause g g.n) o (set o' 0 (word 1 n)) front words (word 15 links) (omega arith) (omega arith)),
       )

@@ -71,5 +71,5 @@ pub record GroupWritten (a : ℕ) (pause : ℕ → ℕ) (bs o o' : List ℕ) (r 
 -- behind the first word the groups of all episodes are written: `words` and `links` count them
 pub record GroupsWritten (pause : ℕ → ℕ → ℕ) (g : Graph) (o o' : List ℕ) (words links : ℕ) : Type 0 where
   pub count : words ≡ 1 + length (groups pause g g.n)
-  pub link_count_lem : links ≡ length (group_links g g.n)
+  pub link_count : links ≡ length (group_links g g.n)
   pub begins : BeginsWith (get_or o 0 0 ∷ groups pause g g.n) o o'

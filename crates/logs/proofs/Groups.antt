@@ -21,7 +21,7 @@ use Rattle.logs.proofs.Places.{word_between, stop_last, stop_refused, step_from,
 
 -- at `p` a group begins, or the last word stands
 pub record AtGroup (m : Ceilings) (l : List ℕ) (n p t : ℕ) : Type 0 where
-  pub behind_head_lem : 0 < p
+  pub behind_head : 0 < p
   pub within : p < length l
   pub few : t < p
   pub same : onwards_at m l n p (ltb 1 p) t ≡ onwards_at m l n 1 false 0
@@ -35,7 +35,7 @@ pub record InGroup (m : Ceilings) (l : List ℕ) (n p t : ℕ) : Type 0 where
   pub same : onwards_at m l n p true t ≡ onwards_at m l n 1 false 0
 
 pub first_group : (m : Ceilings) (l : List ℕ) (n : ℕ) → 2 ≤ length l → AtGroup m l n 1 0
-first_group m l n h = record { behind_head_lem = omega arith; within = omega arith; few = omega arith; same = refl; begins = inl refl }
+first_group m l n h = record { behind_head = omega arith; within = omega arith; few = omega arith; same = refl; begins = inl refl }
 
 module _ (m : Ceilings) (l : List ℕ) (n p t : ℕ) where
   -- a to word does not stand where a group begins: question 5 refuses it as word 1, and behind another group it would be of that group
@@ -47,7 +47,7 @@ module _ (m : Ceilings) (l : List ℕ) (n p t : ℕ) where
   pub group_ends : InGroup m l n p t → to_before_last l p ≡ false → AtGroup m l n p t
   group_ends g other =
       record {
-        behind_head_lem = omega arith;
+        behind_head = omega arith;
         within = g.within;
         few = g.few;
         same = rw (lt-ltb 1 p g.behind_from) g.same;

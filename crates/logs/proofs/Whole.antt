@@ -32,12 +32,12 @@ module _ (m : Ceilings) (l : List ℕ) (long : 2 ≤ length l) (head : LogWord) 
   pub head_given_up : (k q : ℕ) → head ≡ GivenUp k q → and_then (word_answer head) (given (0, 0)) ≡ questions m l
   head_given_up k q is = rw (ap word_answer is) (sym (head_first m l long ∙ rw (sym e ∙ ap word_answer is)))
 
-  pub behind_head_lem : (k n q : ℕ) → head ≡ Taken k n q → questions m l ≡ onwards_at m l n 1 false 0
-  behind_head_lem k n q is =
+  pub behind_head : (k n q : ℕ) → head ≡ Taken k n q → questions m l ≡ onwards_at m l n 1 false 0
+  behind_head k n q is =
       let passed = sym e ∙ ap word_answer is in
       head_first m l long ∙ rw (passed, ap (λ (v : ℕ × ℕ × ℕ). v.1) (head_passed m (get_or l 0 0) (k, n, q) passed).2)
 
   -- the answer of the word where the loops stop is that of the log
   pub word_stopped : (k n q : ℕ) → head ≡ Taken k n q → (place count : ℕ) → Stopped m l n place count → (word : LogWord)
       → word_answer word ≡ log_word_at m l n place (ltb 1 place) count → and_then (word_answer word) (given (n, count)) ≡ questions m l
-  word_stopped k n q is place count stop word f = sym (behind_head_lem k n q is ∙ stop.answer ∙ rw (sym f))
+  word_stopped k n q is place count stop word f = sym (behind_head k n q is ∙ stop.answer ∙ rw (sym f))

@@ -12,7 +12,7 @@ write_ends-requires c =
     let few = episodes_few c.args.log.now in
     let fewer = links_few c.args.log.now c.requires.0 (graph_of c.args.log.now).n in (
       omega (arith, c.requires.1),
-      omega (arith, written.ensures.link_count_lem),
+      omega (arith, written.ensures.link_count),
       end_room (least_pause (content_of c.args.log.now)) (graph_of c.args.log.now) c.args.out.now written.new.out written.result.words written.result.links
           c.requires.3 written.ensures,
     )

@@ -43,13 +43,13 @@ loop-to-init c =
     (omega arith) c.group_word.ensures c.in-Taken.field-2 c.in-Taken.is in
     let same : at.at - at.others ≡ at.at + 1 - (at.others + 1) = omega arith in
     let (from_kind, from, low) = episode c in
-    let near = (pass_from a.log.now at.at at.invariant.0.behind_head_lem at.invariant.0.within from_kind).1 in (
+    let near = (pass_from a.log.now at.at at.invariant.0.behind_head at.invariant.0.within from_kind).1 in (
       rw same at in_group,
       to_kind,
       omega arith,
       omega arith,
       omega arith,
-      counting_from a.log.now at.at at.invariant.0.behind_head_lem at.invariant.0.within at.seen at.links at.invariant.4 from_kind,
+      counting_from a.log.now at.at at.invariant.0.behind_head at.invariant.0.within at.seen at.links at.invariant.4 from_kind,
       omega (arith, near, from),
       omega (arith, near, from, low, c.requires.1),
     )
