@@ -17,6 +17,8 @@ DECLARED = re.compile(r"(?m)^ *(?:(?:pub|abbrev|unfoldable|pattern) )*([^\s(){}.
 USE = re.compile(r"(?m)\buse ([^\s;{]+)(\{[^;}]*\})?")
 # Fields that may have a definition's name.
 FIELDS = ("link-count", "behind-head")
+# Fields that are called otherwise, since their definition's name is used beside them.
+RENAMED = {"is-from": "kind_from", "is-to": "kind_to"}
 # Two lemmas whose plain spelling is that of the definition `toWord`, by the files that name them.
 INSTEAD = {"to_word": "to_word_below", "from-word": "from_word_below"}
 NAMED_IN = ("crates/log/proofs/Laws.antt", "crates/log/proofs/Walk.antt", "crates/reach/proofs/Marks.antt", "crates/copying/proofs/GroupLinks.antt")
@@ -75,6 +77,7 @@ def declared(root):
     turned = {name: snake(name) for name in sorted(found) if re.match("[a-z]", name) and snake(name) != name and not name.startswith("the-")}
     definitions = {new for old, new in turned.items() if "-" not in old}
     turned = {old: new + "_lem" if "-" in old and new in definitions and old not in FIELDS else new for old, new in turned.items()}
+    turned.update({old: new for old, new in RENAMED.items() if old in turned})
     met = {}
     for old, new in turned.items():
         if new in found and new not in INSTEAD:

@@ -111,13 +111,13 @@ module _ (m : Ceilings) (n : ℕ) where
       → over m n p (w ∷ s) before t ≡ over m n (p + 1) s true t
   unfolding onwards
   over_from p w [] before t h k = absurd (omega arith)
-  over_from p w (x ∷ rest) before t h k = rw (from_given m n p w (x ∷ rest) before t k, k.is_from_lem, or-true)
+  over_from p w (x ∷ rest) before t h k = rw (from_given m n p w (x ∷ rest) before t k, k.kind_from, or-true)
 
   over_to : (p w : ℕ) (s : List ℕ) (t : ℕ) → 0 < length s → ToTaken m n w true t
       → over m n p (w ∷ s) true t ≡ over m n (p + 1) s true (t + 1)
   unfolding onwards
   over_to p w [] t h k = absurd (omega arith)
-  over_to p w (x ∷ rest) t h k = rw (to_given m n p w (x ∷ rest) true t k, k.is_to_lem)
+  over_to p w (x ∷ rest) t h k = rw (to_given m n p w (x ∷ rest) true t k, k.kind_to)
 
   -- the words `s` answer `r` at any place, with `t` to words before them
   abbrev Answers : List ℕ → ℕ → Answer (ℕ × ℕ) → Type 0
@@ -136,7 +136,7 @@ module _ (m : Ceilings) (n : ℕ) where
         let (below, low, short) = h b (here refl) in
         let same : t + 1 + length bs ≡ t + suc (length bs) = omega arith in
         over_to p (to_word b (pause b)) (map (λ (c : ℕ). to_word c (pause c)) bs ++ s) t (simp length-append (omega arith))
-        (record { is_to_lem = to_kind b (pause b) low short; from_before = refl; below = rw (to_episode_lem b (pause b) low short) below; room = omega arith })
+        (record { kind_to = to_kind b (pause b) low short; from_before = refl; below = rw (to_episode_lem b (pause b) low short) below; room = omega arith })
         ∙ over_tos bs s (t + 1) r (λ c i. h c (there i)) l (omega arith) (rw same more) (p + 1)
 
     over_group : (a : ℕ) (bs s : List ℕ) (t : ℕ) (r : Answer (ℕ × ℕ)) → Small a → a < n → All Written bs → 0 < length s
@@ -149,7 +149,7 @@ module _ (m : Ceilings) (n : ℕ) where
         let tos : List ℕ = map (λ (c : ℕ). to_word c (pause c)) (b ∷ bs) ++ s in
         let long : 1 < length tos = simp length-append (omega arith) in
         over_from p (word 2 a) tos before t (omega arith)
-        (record { is_from_lem = kind_word 2 a small; to_follows = there_to tos 0 long (to_kind b (pause b) low short); below = rw (number_word 2 a small) i })
+        (record { kind_from = kind_word 2 a small; to_follows = there_to tos 0 long (to_kind b (pause b) low short); below = rw (number_word 2 a small) i })
         ∙ over_tos (b ∷ bs) s t r h l room more (p + 1)
 
 module _ (m : Ceilings) (pause : ℕ → ℕ → ℕ) (g : Graph) (fits : Fits pause g) where

@@ -124,12 +124,12 @@ module _ (m : Ceilings) (n p w : ℕ) (rest : List ℕ) (from : Bool) (t : ℕ) 
 
 -- what the questions say of a from word that is taken, and of a to word
 pub record FromTaken (n w : ℕ) (rest : List ℕ) : Type 0 where
-  pub is_from_lem : kind w ≡ 2
+  pub kind_from : kind w ≡ 2
   pub to_follows : to_before_last rest 0 ≡ true
   pub below : number w < n
 
 pub record ToTaken (m : Ceilings) (n w : ℕ) (from : Bool) (t : ℕ) : Type 0 where
-  pub is_to_lem : kind w ≡ 3
+  pub kind_to : kind w ≡ 3
   pub from_before : from ≡ true
   pub below : to_episode w < n
   pub room : t < m.words
@@ -140,17 +140,17 @@ group_taken m n p w rest from t a e = by_kind (eqb (kind w) 2) (eqb (kind w) 3) 
   where
     by_kind : (x y : Bool) → eqb (kind w) 2 ≡ x → eqb (kind w) 3 ≡ y → FromTaken n w rest ⊎ ToTaken m n w from t
     by_kind true y f g =
-        let is_from_lem = eqb-true (kind w) 2 f in
-        let six = asked 6 p (to_before_last rest 0) (question 7 p (ltb (number w) n) (given (2, number w, 0))) a (sym (group_from m n p w rest from t is_from_lem) ∙ e) in
+        let kind_from = eqb-true (kind w) 2 f in
+        let six = asked 6 p (to_before_last rest 0) (question 7 p (ltb (number w) n) (given (2, number w, 0))) a (sym (group_from m n p w rest from t kind_from) ∙ e) in
         let seven = asked 7 p (ltb (number w) n) (given (2, number w, 0)) a six.1 in
-        inl (record { is_from_lem = is_from_lem; to_follows = six.0; below = ltb-true (number w) n seven.0 })
+        inl (record { kind_from = kind_from; to_follows = six.0; below = ltb-true (number w) n seven.0 })
     by_kind false true f g =
-        let is_to_lem = eqb-true (kind w) 3 g in
+        let kind_to = eqb-true (kind w) 3 g in
         let next : Answer (ℕ × ℕ × ℕ) = question 8 p (ltb t m.words) (given (3, to_episode w, to_pause w)) in
-        let five = asked 5 p from (question 7 p (ltb (to_episode w) n) next) a (sym (group_to m n p w rest from t is_to_lem) ∙ e) in
+        let five = asked 5 p from (question 7 p (ltb (to_episode w) n) next) a (sym (group_to m n p w rest from t kind_to) ∙ e) in
         let seven = asked 7 p (ltb (to_episode w) n) next a five.1 in
         let eight = asked 8 p (ltb t m.words) (given (3, to_episode w, to_pause w)) a seven.1 in
-        inr (record { is_to_lem = is_to_lem; from_before = five.0; below = ltb-true (to_episode w) n seven.0; room = ltb-true t m.words eight.0 })
+        inr (record { kind_to = kind_to; from_before = five.0; below = ltb-true (to_episode w) n seven.0; room = ltb-true t m.words eight.0 })
     by_kind false false f g =
         let four = group_other m n p w rest from t (eqb-false (kind w) 2 f) (eqb-false (kind w) 3 g) in
         let none : ◌≡◌ {A = ℕ} 0 1 = cc in
@@ -175,12 +175,12 @@ end_taken p w t a e =
 -- and the other way round
 pub from_given : (m : Ceilings) (n p w : ℕ) (rest : List ℕ) (from : Bool) (t : ℕ) → FromTaken n w rest
     → group_word m n p w rest from t ≡ given (2, number w, 0)
-from_given m n p w rest from t k = group_from m n p w rest from t k.is_from_lem ∙ rw (k.to_follows, lt-ltb (number w) n k.below)
+from_given m n p w rest from t k = group_from m n p w rest from t k.kind_from ∙ rw (k.to_follows, lt-ltb (number w) n k.below)
 
 pub to_given : (m : Ceilings) (n p w : ℕ) (rest : List ℕ) (from : Bool) (t : ℕ) → ToTaken m n w from t
     → group_word m n p w rest from t ≡ given (3, to_episode w, to_pause w)
 to_given m n p w rest from t k =
-    group_to m n p w rest from t k.is_to_lem ∙ rw (k.from_before, lt-ltb (to_episode w) n k.below, lt-ltb t m.words k.room)
+    group_to m n p w rest from t k.kind_to ∙ rw (k.from_before, lt-ltb (to_episode w) n k.below, lt-ltb t m.words k.room)
 
 pub end_given : (p w t : ℕ) → kind w ≡ 15 → number w ≡ t → end_word p w t ≡ given (kind w, number w, 0)
 end_given p w t k x = sym (end_passed p w t (kind w) (number w) refl refl k x)

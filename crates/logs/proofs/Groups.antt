@@ -42,7 +42,7 @@ module _ (m : Ceilings) (l : List ℕ) (n p t : ℕ) where
   no_to : AtGroup m l n p t → p + 1 < length l → ToTaken m n (get_or l p 0) (ltb 1 p) t → ⊥
   no_to g h taken =
       let after : 1 < p = ltb-true 1 p taken.from_before in
-      ⊎_elim (λ first. omega arith) (λ other. true≢false (sym (there_to l p h taken.is_to_lem) ∙ other)) g.begins
+      ⊎_elim (λ first. omega arith) (λ other. true≢false (sym (there_to l p h taken.kind_to) ∙ other)) g.begins
 
   pub group_ends : InGroup m l n p t → to_before_last l p ≡ false → AtGroup m l n p t
   group_ends g other =
@@ -79,7 +79,7 @@ module _ (m : Ceilings) (l : List ℕ) (n p t : ℕ) where
               behind_from = omega arith;
               within = h;
               few = omega arith;
-              same = sym (step_from m l n p (ltb 1 p) t (k, x, q) h (sym e ∙ ap word_answer is) taken.is_from_lem) ∙ g.same;
+              same = sym (step_from m l n p (ltb 1 p) t (k, x, q) h (sym e ∙ ap word_answer is) taken.kind_from) ∙ g.same;
             },
             sym (behind l (p + 1)) ∙ taken.to_follows,
           )
@@ -91,7 +91,7 @@ module _ (m : Ceilings) (l : List ℕ) (n p t : ℕ) where
           let same : ◌≡◌ {A = ℕ × ℕ × ℕ} (k, x, q) (2, number (get_or l p 0), 0) =
           cc (sym e ∙ ap word_answer is, from_given m n p (get_or l p 0) (drop (p + 1) l) (ltb 1 p) t taken) in
           let episode : x ≡ number (get_or l p 0) = ap (λ (v : ℕ × ℕ × ℕ). v.1) same in
-          (taken.is_from_lem, episode, omega (arith, taken.below))
+          (taken.kind_from, episode, omega (arith, taken.below))
 
       pub from_given_up : r ≡ GivenUp k x → Stopped m l n p t
       from_given_up is =
@@ -103,16 +103,16 @@ module _ (m : Ceilings) (l : List ℕ) (n p t : ℕ) where
           }
 
     -- of a to word behind its group's from word, 7 and 8 are left to ask
-    module _ (g : InGroup m l n p t) (is_to_lem : to_before_last l p ≡ true)
+    module _ (g : InGroup m l n p t) (kind_to : to_before_last l p ≡ true)
         (e : word_answer r
         ≡ question 7 p (ltb (to_episode (get_or l p 0)) n)
         (question 8 p (ltb t m.words) (given (3, to_episode (get_or l p 0), to_pause (get_or l p 0))))) where
       all_asked : word_answer r ≡ group_word m n p (get_or l p 0) (drop (p + 1) l) true t
-      all_asked = e ∙ sym (group_to m n p (get_or l p 0) (drop (p + 1) l) true t (to_there l p is_to_lem).1)
+      all_asked = e ∙ sym (group_to m n p (get_or l p 0) (drop (p + 1) l) true t (to_there l p kind_to).1)
 
       pub to_taken : (q : ℕ) → r ≡ Taken k x q → InGroup m l n (p + 1) (t + 1)
       to_taken q is =
-          let there = to_there l p is_to_lem in
+          let there = to_there l p kind_to in
           record {
             behind_from = omega arith;
             within = there.0;
@@ -132,7 +132,7 @@ module _ (m : Ceilings) (l : List ℕ) (n p t : ℕ) where
 
       pub to_given_up : r ≡ GivenUp k x → Stopped m l n p t
       to_given_up is =
-          let there = to_there l p is_to_lem in
+          let there = to_there l p kind_to in
           let given-up = sym all_asked ∙ ap word_answer is in
           record {
             within = g.within;

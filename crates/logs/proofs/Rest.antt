@@ -101,13 +101,13 @@ rest_formed m n p w (x ∷ rest) from t n' t' e room =
     let both = both_given (group_word m n p w (x ∷ rest) from t) (onwards m n (p + 1) x rest (from || is_from w) (counted (is_to w) t)) (n', t') e in
     ⊎_elim
     (λ k.
-    let more = rest_formed m n (p + 1) x rest true t n' t' (rw (k.is_from_lem, or-true) at both.1) room in
-    (more.0, in_front n w x rest from t t' t (inl k) (λ f. k.is_from_lem) (rw (count_from w (x ∷ rest) k.is_from_lem)) more.1, more.2))
+    let more = rest_formed m n (p + 1) x rest true t n' t' (rw (k.kind_from, or-true) at both.1) room in
+    (more.0, in_front n w x rest from t t' t (inl k) (λ f. k.kind_from) (rw (count_from w (x ∷ rest) k.kind_from)) more.1, more.2))
     (λ k.
-    let more = rest_formed m n (p + 1) x rest true (t + 1) n' t' (rw (k.is_to_lem, or-false, k.from_before) at both.1) (omega (arith, k.room)) in (
+    let more = rest_formed m n (p + 1) x rest true (t + 1) n' t' (rw (k.kind_to, or-false, k.from_before) at both.1) (omega (arith, k.room)) in (
       more.0,
-      in_front n w x rest from t t' (t + 1) (inr (k.is_to_lem, k.below)) (λ f. absurd (true≢false (sym k.from_before ∙ f)))
-          (rw (count_to w (x ∷ rest) k.is_to_lem) (omega arith)) more.1,
+      in_front n w x rest from t t' (t + 1) (inr (k.kind_to, k.below)) (λ f. absurd (true≢false (sym k.from_before ∙ f)))
+          (rw (count_to w (x ∷ rest) k.kind_to) (omega arith)) more.1,
       more.2,
     ))
     (group_taken m n p w (x ∷ rest) from t both.0.0 both.0.1)
@@ -126,12 +126,12 @@ rest_passes m n p w [] from t t' r room =
 rest_passes m n p w (x ∷ rest) from t t' r room =
     ⊎_elim
     (λ k.
-    let more = rest_passes m n (p + 1) x rest true t t' (behind_from n w x rest from t t' k.is_from_lem r) room in
-    rw (from_given m n p w (x ∷ rest) from t k, k.is_from_lem, or-true) more)
+    let more = rest_passes m n (p + 1) x rest true t t' (behind_from n w x rest from t t' k.kind_from r) room in
+    rw (from_given m n p w (x ∷ rest) from t k, k.kind_from, or-true) more)
     (λ k.
     let more = rest_passes m n (p + 1) x rest true (t + 1) t' (behind_to n w x rest from t t' k.0 r) room in
     let before = from_before n w x rest from t t' r k.0 in
-    let taken : ToTaken m n w from t = record { is_to_lem = k.0; from_before = before; below = k.1; room = omega (arith, r.count, count_to w (x ∷ rest) k.0) } in
+    let taken : ToTaken m n w from t = record { kind_to = k.0; from_before = before; below = k.1; room = omega (arith, r.count, count_to w (x ∷ rest) k.0) } in
     rw (to_given m n p w (x ∷ rest) from t taken, before, k.0) more)
     (r.grouped 0 (omega arith))
 
@@ -142,8 +142,8 @@ ends_below n (w ∷ []) from t t' a r k h i = absurd (not-nil (rw (heard_end a w
 ends_below n (w ∷ x ∷ rest) from t t' a r k h i =
     ⊎_elim
     (λ f.
-    ends_below n (x ∷ rest) true t t' (number w) (behind_from n w x rest from t t' f.is_from_lem r) (λ e. f.below) h
-    (rw (heard_from_lem a w (x ∷ rest) f.is_from_lem) at i))
+    ends_below n (x ∷ rest) true t t' (number w) (behind_from n w x rest from t t' f.kind_from r) (λ e. f.below) h
+    (rw (heard_from_lem a w (x ∷ rest) f.kind_from) at i))
     (λ f.
     let start : a < n = k (from_before n w x rest from t t' r f.0) in
     ⊎_elim

@@ -82,11 +82,11 @@ module _ (m : Ceilings) (h w : ℕ) (rest : List ℕ) (n t : ℕ) where
     where
       between : (p : ℕ) → 0 < p → p + 1 < length (h ∷ w ∷ rest) → (kind (get_or (h ∷ w ∷ rest) p 0) ≡ 2) ⊎ (kind (get_or (h ∷ w ∷ rest) p 0) ≡ 3)
       between zero o g = absurd (omega arith)
-      between (suc i) o g = ⊎_elim (λ k. inl k.is_from_lem) (λ k. inr k.0) (r.words.grouped i (omega arith))
+      between (suc i) o g = ⊎_elim (λ k. inl k.kind_from) (λ k. inr k.0) (r.words.grouped i (omega arith))
 
       below : (p : ℕ) → 0 < p → p + 1 < length (h ∷ w ∷ rest) → figure (get_or (h ∷ w ∷ rest) p 0) < n
       below zero o g = absurd (omega arith)
-      below (suc i) o g = ⊎_elim (λ k. rw (figure_from _ k.is_from_lem) k.below) (λ k. rw (figure_to _ k.0) k.1) (r.words.grouped i (omega arith))
+      below (suc i) o g = ⊎_elim (λ k. rw (figure_from _ k.kind_from) k.below) (λ k. rw (figure_to _ k.0) k.1) (r.words.grouped i (omega arith))
 
       follows : (p : ℕ) → 0 < p → p + 1 < length (h ∷ w ∷ rest) → kind (get_or (h ∷ w ∷ rest) p 0) ≡ 2
           → (p + 2 < length (h ∷ w ∷ rest)) × (kind (get_or (h ∷ w ∷ rest) (p + 1) 0) ≡ 3)
@@ -122,7 +122,7 @@ module _ (m : Ceilings) (h w : ℕ) (rest : List ℕ) (n t : ℕ) where
           (λ k.
           let next = f.follows (suc i) (omega arith) (omega arith) k in
           inl (record {
-            is_from_lem = k;
+            kind_from = k;
             to_follows = behind (w ∷ rest) (i + 1) ∙ there_to (w ∷ rest) (i + 1) (omega (arith, next.0)) (rw suc-add at next.1);
             below = rw (figure_from _ k) at (f.below (suc i) (omega arith) (omega arith));
           }))
