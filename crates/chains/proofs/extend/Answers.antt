@@ -4,23 +4,8 @@ use native.Mathlib.Omega.{arith}
 use Rattle.chains.proofs.Extending.{Going, flip_asked, going_more, going_less, not_end, going_start, going_end, in_vain}
 use Rattle.chains.proofs.extend.Goals as goal
 
-pub overflow_add-a : goal.overflow_add-a
-overflow_add-a c = omega (arith, c.requires.0.sized.items)
-
-pub offset_bounds-w-a : goal.offset_bounds-w-a
-offset_bounds-w-a c = omega (arith, c.requires.0.sized.items)
-
-pub bounds-w-a : goal.bounds-w-a
-bounds-w-a c = omega (arith, c.requires.0.sized.long, c.requires.0.sized.items)
-
 pub returns-then-w-a-ne0 : goal.returns-then-w-a-ne0
 returns-then-w-a-ne0 c = not_end c.args.w.now c.args.base c.args.m c.args.a c.requires.0 (omega arith)
-
-pub search-found-requires : goal.search-found-requires
-search-found-requires c = (c.requires.0, c.requires.1, omega arith)
-
-pub copy_row-requires : goal.copy_row-requires
-copy_row-requires c = (omega (arith, c.requires.0.sized.long), omega (arith, c.requires.0.sized.long), omega arith)
 
 pub returns-then-found-m : goal.returns-then-found-m
 returns-then-found-m c =
@@ -29,30 +14,10 @@ returns-then-found-m c =
     in_vain c.args.w.now h.new.w c.args.base c.args.m c.args.a h.result c.requires.0 h.ensures k.new.w
     c.if-found-m.true k.ensures
 
--- before the first step back
-first : (c : goal.After-flip-arg-1)
-    → (tail : ℕ)
-    × (let h = c.search-found in
-    Going h.new.w h.new.w c.args.base c.args.m tail (h.result + 1))
-first c =
-    let h = c.search-found in
-    going_start c.args.w.now h.new.w c.args.base c.args.m c.args.a h.result c.requires.0 h.ensures
-    (omega (arith, h.ensures.item_le))
-
-pub flip-old-requires : goal.flip-old-requires
-flip-old-requires c =
-    let a = c.args in
-    let h = c.search-found in
-    let (tail, s) = first c in
-    flip_asked h.new.w h.new.w a.base a.m tail (h.result + 1) h.result s refl
-
-pub loop-old-init : goal.loop-old-init
-loop-old-init c = λ w₁ tail s. s
-
 pub flip-old-requires-in-loop-old : goal.flip-old-requires-in-loop-old
 flip-old-requires-in-loop-old c =
     let first_here : (tail : ℕ) × (let h = c.search-found in Going h.new.w h.new.w c.args.base c.args.m tail (h.result + 1)) = let h = c.search-found in going_start c.args.w.now h.new.w c.args.base c.args.m c.args.a h.result c.requires.0 h.ensures (omega (arith, h.ensures.item_le)) in
-    let here_here : (tail : ℕ) × (let a = c.args in Going c.search-found.new.w c.loop-old.w a.base a.m tail c.loop-old.old) = let a = c.args in let h = c.search-found in let k = c.flip-old in let (tail, s) = first_here in ( tail, c.loop-old.invariant h.new.w tail (going_more h.new.w h.new.w a.base a.m tail (h.result + 1) h.result s refl k.new.w k.result k.ensures), ) in
+    let here_here : (tail : ℕ) × (let a = c.args in Going c.search-found.new.w c.loop-old.w a.base a.m tail c.loop-old.old) = let a = c.args in let h = c.search-found in let k = c.flip-old in let (tail, s) = first_here in (tail, c.loop-old.invariant h.new.w tail (going_more h.new.w h.new.w a.base a.m tail (h.result + 1) h.result s refl k.new.w k.result k.ensures)) in
     let a = c.args in
     let at = c.loop-old in
     let (tail, s) = here_here in
@@ -62,7 +27,7 @@ flip-old-requires-in-loop-old c =
 pub loop-old-smaller : goal.loop-old-smaller
 loop-old-smaller c =
     let first_here : (tail : ℕ) × (let h = c.search-found in Going h.new.w h.new.w c.args.base c.args.m tail (h.result + 1)) = let h = c.search-found in going_start c.args.w.now h.new.w c.args.base c.args.m c.args.a h.result c.requires.0 h.ensures (omega (arith, h.ensures.item_le)) in
-    let here_here : (tail : ℕ) × (let a = c.args in Going c.search-found.new.w c.loop-old.w a.base a.m tail c.loop-old.old) = let a = c.args in let h = c.search-found in let k = c.flip-old in let (tail, s) = first_here in ( tail, c.loop-old.invariant h.new.w tail (going_more h.new.w h.new.w a.base a.m tail (h.result + 1) h.result s refl k.new.w k.result k.ensures), ) in
+    let here_here : (tail : ℕ) × (let a = c.args in Going c.search-found.new.w c.loop-old.w a.base a.m tail c.loop-old.old) = let a = c.args in let h = c.search-found in let k = c.flip-old in let (tail, s) = first_here in (tail, c.loop-old.invariant h.new.w tail (going_more h.new.w h.new.w a.base a.m tail (h.result + 1) h.result s refl k.new.w k.result k.ensures)) in
     let a = c.args in
     let at = c.loop-old in
     let k = c.flip-old-in-loop-old in
@@ -79,23 +44,13 @@ loop-old-preserved c =
     λ w₁ tail s.
     going_more w₁ at.w a.base a.m tail at.old (at.old - 1) (at.invariant w₁ tail s) (omega arith) k.new.w k.result k.ensures
 
-pub copy_row-requires-2 : goal.copy_row-requires-2
-copy_row-requires-2 c =
-    let first_here : (tail : ℕ) × (let h = c.search-found in Going h.new.w h.new.w c.args.base c.args.m tail (h.result + 1)) = let h = c.search-found in going_start c.args.w.now h.new.w c.args.base c.args.m c.args.a h.result c.requires.0 h.ensures (omega (arith, h.ensures.item_le)) in
-    let here_here : (tail : ℕ) × (let a = c.args in Going c.search-found.new.w c.loop-old.w a.base a.m tail c.loop-old.old) = let a = c.args in let h = c.search-found in let k = c.flip-old in let (tail, s) = first_here in ( tail, c.loop-old.invariant h.new.w tail (going_more h.new.w h.new.w a.base a.m tail (h.result + 1) h.result s refl k.new.w k.result k.ensures), ) in
-    let (tail, k) = here_here in
-    (omega (arith, k.long), omega (arith, k.long), omega arith)
-
 pub returns : goal.returns
 returns c =
     let first_here : (tail : ℕ) × (let h = c.search-found in Going h.new.w h.new.w c.args.base c.args.m tail (h.result + 1)) = let h = c.search-found in going_start c.args.w.now h.new.w c.args.base c.args.m c.args.a h.result c.requires.0 h.ensures (omega (arith, h.ensures.item_le)) in
-    let here_here : (tail : ℕ) × (let a = c.args in Going c.search-found.new.w c.loop-old.w a.base a.m tail c.loop-old.old) = let a = c.args in let h = c.search-found in let k = c.flip-old in let (tail, s) = first_here in ( tail, c.loop-old.invariant h.new.w tail (going_more h.new.w h.new.w a.base a.m tail (h.result + 1) h.result s refl k.new.w k.result k.ensures), ) in
+    let here_here : (tail : ℕ) × (let a = c.args in Going c.search-found.new.w c.loop-old.w a.base a.m tail c.loop-old.old) = let a = c.args in let h = c.search-found in let k = c.flip-old in let (tail, s) = first_here in (tail, c.loop-old.invariant h.new.w tail (going_more h.new.w h.new.w a.base a.m tail (h.result + 1) h.result s refl k.new.w k.result k.ensures)) in
     let h = c.search-found in
     let at = c.loop-old in
     let k = c.copy_row-2 in
     let (tail, g) = here_here in
     going_end c.args.w.now h.new.w c.args.base c.args.m c.args.a h.result c.requires.0 h.ensures at.w k.new.w tail
     at.old g (omega arith) k.ensures
-
-pub shape_of-w : goal.shape_of-w
-shape_of-w c = omega (arith, (returns c).outside.same_length)

@@ -3,12 +3,6 @@ use native.Mathlib.Omega.{arith}
 use Rattle.chains.proofs.Joining.{Joining, joining_start, joining_more, joining_end}
 use Rattle.chains.proofs.extend_all.Goals as goal
 
-pub forget-requires : goal.forget-requires
-forget-requires c = c.requires.sized.long
-
-pub loop-from-init : goal.loop-from-init
-loop-from-init c = λ e z s. s
-
 pub extend-requires : goal.extend-requires
 extend-requires c =
     let here_here : (let a = c.args in Joining a.w.now c.loop-from.w a.base a.m c.loop-from.from) = let n = c.forget in c.loop-from.invariant c.args.w.now c.requires (joining_start c.args.w.now c.args.base c.args.m c.requires n.new.w n.ensures) in
@@ -26,6 +20,3 @@ returns c =
     let here_here : (let a = c.args in Joining a.w.now c.loop-from.w a.base a.m c.loop-from.from) = let n = c.forget in c.loop-from.invariant c.args.w.now c.requires (joining_start c.args.w.now c.args.base c.args.m c.requires n.new.w n.ensures) in
     let at = c.loop-from in
     joining_end c.args.w.now c.args.base c.args.m c.requires at.w at.from here_here (omega arith)
-
-pub shape_of-w : goal.shape_of-w
-shape_of-w c = omega (arith, (returns c).outside.same_length)

@@ -18,9 +18,8 @@ write_group-requires c =
     )
 
 pub returns : goal.returns
-returns c =
-    (
-      c.block_of.ensures,
-      row_written (content_of c.args.log.now) c.args.a c.args.n c.block_of.new.w c.requires.1 c.requires.2 (omega arith)
-          c.block_of.ensures _ _ _ c.write_group.ensures,
-    )
+returns c = (
+  c.block_of.ensures,
+  row_written (content_of c.args.log.now) c.args.a c.args.n c.block_of.new.w c.requires.1 c.requires.2 (omega arith)
+      c.block_of.ensures _ _ _ c.write_group.ensures,
+)

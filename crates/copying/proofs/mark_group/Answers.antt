@@ -9,11 +9,6 @@ use Rattle.copying.specs.Copying.{GroupTaken}
 use Rattle.copying.proofs.Rows.{group_first, group_more}
 use Rattle.copying.proofs.mark_group.Goals as goal
 
-pub loop-init : goal.loop-init
-loop-init c =
-    let block = nearest_from c.args.log.now c.args.start / 64 in
-    (group_first block c.args.log.now c.args.start c.args.w.now c.requires.2, c.requires.2)
-
 -- the word at `at` gives an episode
 fits : (c : goal.After-struct_known-1) → c.to_word_of-to.result.episode < 256
 fits c =
@@ -21,33 +16,10 @@ fits c =
     rw c.to_word_of-to.ensures.0
     (to_fits c.args.log.now c.requires.0 c.args.start at.at c.requires.1 at.invariant.0.words at.invariant.1)
 
-pub overflow_add-row : goal.overflow_add-row
-overflow_add-row c = omega (arith, c.requires.3, fits c)
-
 pub lower-requires : goal.lower-requires
 lower-requires c =
     let same = c.loop.invariant.0.same_length in
     (omega (arith, c.requires.3, fits c), omega (arith, c.to_word_of-to.ensures.1))
-
--- and it is marked
-marked : (c : goal.After-slice_known-in-loop-1)
-    → GroupTaken
-    (nearest_from c.args.log.now
-    c.args.start
-    / 64)
-    c.args.log.now
-    c.args.start
-    (c.loop.at + 1)
-    c.args.w.now
-    c.lower.new.w
-marked c =
-    let at = c.loop in
-    let to = c.to_word_of-to.ensures in
-    group_more c.args.log.now c.args.start at.at c.args.w.now at.w c.lower.new.w c.requires.0 c.requires.1
-    at.invariant.0 at.invariant.1 (rw (c.requires.3, to.0, to.1) at c.lower.ensures)
-
-pub to_before_last-requires : goal.to_before_last-requires
-to_before_last-requires c = (marked c).words.within
 
 pub loop-preserved : goal.loop-preserved
 loop-preserved c =

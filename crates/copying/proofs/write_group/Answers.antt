@@ -14,10 +14,6 @@ loop-b-init c =
     let row = c.args.row.now in
     listing_none (marked_at row) (λ b. to_word b (pause_at row b)) c.args.out.now (length row) (omega arith)
 
--- a mark holds a pause that fits a to word
-short : (c : goal.Then-mark-ne0) → get_or c.args.row.now c.loop-b.b 0 ≤ 2 ^ 12
-short c = c.requires.3 c.loop-b.b (omega arith)
-
 -- the group has room for its to word
 room : (c : goal.Then-mark-ne0) → c.loop-b.links + 1 < length c.loop-b.out
 room c =
@@ -25,18 +21,6 @@ room c =
     let at = c.loop-b in
     let more = marked_room a.row.now a.a at.b (omega arith) (λ e. omega arith) in
     omega arith
-
-pub overflow_mul-out : goal.overflow_mul-out
-overflow_mul-out c = omega (arith, short c)
-
-pub overflow_add-out : goal.overflow_add-out
-overflow_add-out c = omega (arith, short c)
-
-pub overflow_add-out-then-mark-ne0 : goal.overflow_add-out-then-mark-ne0
-overflow_add-out-then-mark-ne0 c = omega (arith, short c)
-
-pub offset_bounds-out-links : goal.offset_bounds-out-links
-offset_bounds-out-links c = omega (arith, room c)
 
 pub bounds-out-links : goal.bounds-out-links
 bounds-out-links c = room c
@@ -59,9 +43,6 @@ loop-b-preserved c =
           (listing_same (marked_at row) (λ b. to_word b (pause_at row b)) a.out.now at.out (length row) at.links at.b at.invariant (omega arith)
           (not_marked row at.b (omega (arith, p.if-mark-ne0.false))))
     ]
-
-pub shape_of-out-then-links-ne0 : goal.shape_of-out-then-links-ne0
-shape_of-out-then-links-ne0 c = simp length-set c.loop-b.invariant.same_length
 
 pub returns-then-links-ne0 : goal.returns-then-links-ne0
 returns-then-links-ne0 c =

@@ -17,26 +17,16 @@ pub loop-a-init : goal.loop-a-init
 loop-a-init c =
     (refl, λ e. absurd (e refl), copying_none (least_pause (content_of c.args.log.now)) (graph_of c.args.log.now) c.args.out.now c.requires.3)
 
-pub offset_bounds-out-words : goal.offset_bounds-out-words
-offset_bounds-out-words c = omega (arith, copying_at c.loop-a.invariant.2 c.requires.3)
-
-pub slice_bounds-copy_row-count : goal.slice_bounds-copy_row-count
-slice_bounds-copy_row-count c = copying_at c.loop-a.invariant.2 c.requires.3
-
-pub slice_bounds-copy_row-start : goal.slice_bounds-copy_row-start
-slice_bounds-copy_row-start c = copying_at c.loop-a.invariant.2 c.requires.3
-
 pub copy_row-more-requires : goal.copy_row-more-requires
-copy_row-more-requires c =
-    (
-      c.requires.0,
-      c.requires.1,
-      omega (arith, passed_few c.args.log.now c.requires.0, c.requires.1),
-      c.loop-a.invariant.0 ∙ c.requires.2,
-      c.loop-a.invariant.1,
-      omega arith,
-      copying_room c.loop-a.invariant.2 c.requires.3 _ c.requires.1 (omega arith),
-    )
+copy_row-more-requires c = (
+  c.requires.0,
+  c.requires.1,
+  omega (arith, passed_few c.args.log.now c.requires.0, c.requires.1),
+  c.loop-a.invariant.0 ∙ c.requires.2,
+  c.loop-a.invariant.1,
+  omega arith,
+  copying_room c.loop-a.invariant.2 c.requires.3 _ c.requires.1 (omega arith),
+)
 
 -- an episode has few links
 few_links : (log : List ℕ) (n a : ℕ) {o o' : List ℕ} {r : ℕ} → (graph_of log).n ≡ n → PassedLog log
@@ -68,12 +58,3 @@ loop-a-preserved c =
       next_block c.loop-a.a (content_of c.args.log.now) row.new.w row.ensures.0,
       copying_on c.loop-a.invariant.2 c.requires.3 _ c.requires.1 (omega arith) row.ensures.1 refl c.group_words-words.ensures,
     )
-
-pub shape_of-out : goal.shape_of-out
-shape_of-out c = copying_length c.loop-a.invariant.2 c.requires.3
-
-pub shape_of-w : goal.shape_of-w
-shape_of-w c = c.loop-a.invariant.0
-
-pub returns : goal.returns
-returns c = copying_all c.loop-a.invariant.2 c.requires.3 _ c.requires.1 (omega arith)

@@ -2,6 +2,7 @@ use native.Mathlib.Omega.{arith}
 use mathlib.Core.Path.{◌≡◌, ◌∙◌, sym, ap}
 use mathlib.Core.Logic.{⊎_elim}
 use mathlib.Core.Bool.{true}
+use mathlib.Core.List.{List}
 use Prim.Native.Nat.{ℕ, ◌+◌, ◌-◌, ◌*◌, ◌≤◌, ◌<◌}
 use lib.ListN.{length, get_or, length-replicate}
 use Rattle.logs.specs.Words.{kind, number, to_episode}
@@ -10,7 +11,8 @@ use Rattle.logs.specs.Groups.{nearest_from}
 use Rattle.logs.proofs.Asked.{to_there}
 use Rattle.logs.proofs.Groups.{InGroup, first_group, from_taken, from_episode, from_given_up, to_taken, to_episode_lem, to_given_up, group_ends, at_last}
 use Rattle.logs.proofs.Laws.{pass_from, pass_to}
-use Rattle.bits.specs.Work.{matrix_words}
+use Rattle.logs.specs.declared.Ceilings.{Ceilings}
+use Rattle.bits.specs.Bits.{bit, BitSet}
 use Rattle.link_count.specs.Counted.{LinksStopped}
 use Rattle.link_count.proofs.Counting.{Counting, counting_start, counting_from, counting_to}
 use Rattle.link_count.proofs.count_to_stop.Goals as goal
@@ -54,62 +56,37 @@ loop-to-init c =
       omega (arith, near, from, low, c.requires.1),
     )
 
--- the to word at `at` is taken: it gives an episode
-later : (c : goal.After-mark-arg-1)
-    → (c.in-Taken-to_word.to ≡ to_episode (get_or c.args.log.now c.loop-to.at 0))
-    × (c.in-Taken-to_word.to < c.args.n)
-later c =
-    let a = c.args in
-    let at = c.loop-to in
-    let others : ℕ = c.log.others + 1 in
-    to_episode_lem a.most a.log.now a.n at.at (at.at - others) c.to_word.result c.in-Taken-to_word.field-0 c.in-Taken-to_word.to at.invariant.0 at.invariant.1
-    c.to_word.ensures c.in-Taken-to_word.field-2 c.in-Taken-to_word.is
+-- the words before the place behind a to word that is taken, where the loop speaks of them
+passed : (m : Ceilings) (l : List ℕ) (n at others : ℕ) → others ≤ at → InGroup m l n (at + 1) (at - others + 1) → InGroup m l n (at + 1) (at + 1 - others)
+passed m l n at others h g = let same : at - others + 1 ≡ at + 1 - others = omega arith in rw same at g
 
-pub mark-links-requires : goal.mark-links-requires
-mark-links-requires c =
-    let at = c.loop-to in
-    omega (arith, (later c).1, c.requires.1, at.invariant.5.words, at.invariant.6, at.invariant.7)
-
--- the to word at `at` is passed over, marked and counted
-taken : (c : goal.After-slice_known-in-loop-to-1)
-    → InGroup c.args.most c.args.log.now c.args.n (c.loop-to.at + 1)
-    (c.loop-to.at + 1 - (c.log.others + 1))
-    × Counting c.args.log.now (c.loop-to.at + 1) c.mark-links.new.seen (c.loop-to.links + c.mark-links.result)
-    × (8 * c.in-Taken.from ≡ 8 * nearest_from c.args.log.now (c.loop-to.at + 1))
-    × (nearest_from c.args.log.now (c.loop-to.at + 1) < 256)
-taken c =
-    let later_here : (c.in-Taken-to_word.to ≡ to_episode (get_or c.args.log.now c.loop-to.at 0)) × (c.in-Taken-to_word.to < c.args.n) = let a = c.args in let at = c.loop-to in let others : ℕ = c.log.others + 1 in to_episode_lem a.most a.log.now a.n at.at (at.at - others) c.to_word.result c.in-Taken-to_word.field-0 c.in-Taken-to_word.to at.invariant.0 at.invariant.1 c.to_word.ensures c.in-Taken-to_word.field-2 c.in-Taken-to_word.is in
-    let a = c.args in
-    let at = c.loop-to in
-    let others : ℕ = c.log.others + 1 in
-    let same : at.at - others + 1 ≡ at.at + 1 - others = omega arith in
-    let in_group =
-    to_taken a.most a.log.now a.n at.at (at.at - others) c.to_word.result c.in-Taken-to_word.field-0 c.in-Taken-to_word.to at.invariant.0 at.invariant.1
-    c.to_word.ensures c.in-Taken-to_word.field-2 c.in-Taken-to_word.is in
-    let to_kind = (to_there a.log.now at.at at.invariant.1).1 in
-    let behind : 0 < at.at = omega (arith, at.invariant.0.behind_from) in
-    let (to, low) = later_here in
-    let near = (pass_to a.log.now at.at behind at.invariant.0.within to_kind).1 in
-    let marked = c.mark-links.ensures in (
-      rw same at in_group,
-      counting_to a.log.now at.at behind at.invariant.0.within at.seen at.links at.invariant.5 (8 * c.in-Taken.from)
-          c.in-Taken-to_word.to c.mark-links.result c.mark-links.new.seen to_kind to (omega (arith, low, c.requires.1)) at.invariant.7 at.invariant.6
-          marked.0 marked.1,
-      omega (arith, near, at.invariant.6),
-      omega (arith, near, at.invariant.7),
+-- the to word at `at` is marked and counted
+counted : (l : List ℕ) (n at row b more links : ℕ) (seen seen' : List ℕ) → n ≤ 256 → 0 < at → at < length l → to_before_last l at ≡ true → Counting l at seen links
+    → row ≡ 8 * nearest_from l at → nearest_from l at < 256 → (b ≡ to_episode (get_or l at 0)) × (b < n) → BitSet seen seen' row b × (more + bit seen row b ≡ 1)
+    → Counting l (at + 1) seen' (links + more) × (row ≡ 8 * nearest_from l (at + 1)) × (nearest_from l (at + 1) < 256)
+counted l n at row b more links seen seen' few behind within to s e low (is, below) (set, one) =
+    let k = (to_there l at to).1 in
+    let near = (pass_to l at behind within k).1 in (
+      counting_to l at behind within seen links s row b more seen' k is (omega arith) low e set one,
+      omega (arith, near, e),
+      omega (arith, near, low),
     )
-
-pub to_before_last-requires : goal.to_before_last-requires
-to_before_last-requires c = (taken c).0.within
 
 pub log-preserved : goal.log-preserved
 log-preserved c =
-    let later_here : (c.in-Taken-to_word.to ≡ to_episode (get_or c.args.log.now c.loop-to.at 0)) × (c.in-Taken-to_word.to < c.args.n) = let a = c.args in let at = c.loop-to in let others : ℕ = c.log.others + 1 in to_episode_lem a.most a.log.now a.n at.at (at.at - others) c.to_word.result c.in-Taken-to_word.field-0 c.in-Taken-to_word.to at.invariant.0 at.invariant.1 c.to_word.ensures c.in-Taken-to_word.field-2 c.in-Taken-to_word.is in
-    let taken_here : InGroup c.args.most c.args.log.now c.args.n (c.loop-to.at + 1) (c.loop-to.at + 1 - (c.log.others + 1)) × Counting c.args.log.now (c.loop-to.at + 1) c.mark-links.new.seen (c.loop-to.links + c.mark-links.result) × (8 * c.in-Taken.from ≡ 8 * nearest_from c.args.log.now (c.loop-to.at + 1)) × (nearest_from c.args.log.now (c.loop-to.at + 1) < 256) = let a = c.args in let at = c.loop-to in let others : ℕ = c.log.others + 1 in let same : at.at - others + 1 ≡ at.at + 1 - others = omega arith in let in_group = to_taken a.most a.log.now a.n at.at (at.at - others) c.to_word.result c.in-Taken-to_word.field-0 c.in-Taken-to_word.to at.invariant.0 at.invariant.1 c.to_word.ensures c.in-Taken-to_word.field-2 c.in-Taken-to_word.is in let to_kind = (to_there a.log.now at.at at.invariant.1).1 in let behind : 0 < at.at = omega (arith, at.invariant.0.behind_from) in let (to, low) = later_here in let near = (pass_to a.log.now at.at behind at.invariant.0.within to_kind).1 in let marked = c.mark-links.ensures in ( rw same at in_group, counting_to a.log.now at.at behind at.invariant.0.within at.seen at.links at.invariant.5 (8 * c.in-Taken.from) c.in-Taken-to_word.to c.mark-links.result c.mark-links.new.seen to_kind to (omega (arith, low, c.requires.1)) at.invariant.7 at.invariant.6 marked.0 marked.1, omega (arith, near, at.invariant.6), omega (arith, near, at.invariant.7), ) in
     let a = c.args in
-    let test = c.to_before_last in
-    let (in_group, counting, row, near) = taken_here in (
-      group_ends a.most a.log.now a.n _ _ in_group (sym test.ensures ∙ c.if-not-to_before_last.true),
+    let at = c.loop-to in
+    let w = c.in-Taken-to_word in
+    let others : ℕ = c.log.others + 1 in
+    let behind : 0 < at.at = omega (arith, at.invariant.0.behind_from) in
+    let group =
+    passed a.most a.log.now a.n at.at others (omega arith)
+    (to_taken a.most a.log.now a.n at.at (at.at - others) c.to_word.result w.field-0 w.to at.invariant.0 at.invariant.1 c.to_word.ensures w.field-2 w.is) in
+    let episode = to_episode_lem a.most a.log.now a.n at.at (at.at - others) c.to_word.result w.field-0 w.to at.invariant.0 at.invariant.1 c.to_word.ensures w.field-2 w.is in
+    let (counting, row, near) =
+    counted a.log.now a.n at.at (8 * c.in-Taken.from) w.to c.mark-links.result at.links at.seen c.mark-links.new.seen c.requires.1 behind at.invariant.0.within at.invariant.1
+    at.invariant.5 at.invariant.6 at.invariant.7 episode c.mark-links.ensures in (
+      group_ends a.most a.log.now a.n _ _ group (sym c.to_before_last.ensures ∙ c.if-not-to_before_last.true),
       omega arith,
       omega arith,
       omega (arith, c.mark-links.ensures.1),
@@ -118,12 +95,20 @@ log-preserved c =
 
 pub loop-to-preserved : goal.loop-to-preserved
 loop-to-preserved c =
-    let later_here : (c.in-Taken-to_word.to ≡ to_episode (get_or c.args.log.now c.loop-to.at 0)) × (c.in-Taken-to_word.to < c.args.n) = let a = c.args in let at = c.loop-to in let others : ℕ = c.log.others + 1 in to_episode_lem a.most a.log.now a.n at.at (at.at - others) c.to_word.result c.in-Taken-to_word.field-0 c.in-Taken-to_word.to at.invariant.0 at.invariant.1 c.to_word.ensures c.in-Taken-to_word.field-2 c.in-Taken-to_word.is in
-    let taken_here : InGroup c.args.most c.args.log.now c.args.n (c.loop-to.at + 1) (c.loop-to.at + 1 - (c.log.others + 1)) × Counting c.args.log.now (c.loop-to.at + 1) c.mark-links.new.seen (c.loop-to.links + c.mark-links.result) × (8 * c.in-Taken.from ≡ 8 * nearest_from c.args.log.now (c.loop-to.at + 1)) × (nearest_from c.args.log.now (c.loop-to.at + 1) < 256) = let a = c.args in let at = c.loop-to in let others : ℕ = c.log.others + 1 in let same : at.at - others + 1 ≡ at.at + 1 - others = omega arith in let in_group = to_taken a.most a.log.now a.n at.at (at.at - others) c.to_word.result c.in-Taken-to_word.field-0 c.in-Taken-to_word.to at.invariant.0 at.invariant.1 c.to_word.ensures c.in-Taken-to_word.field-2 c.in-Taken-to_word.is in let to_kind = (to_there a.log.now at.at at.invariant.1).1 in let behind : 0 < at.at = omega (arith, at.invariant.0.behind_from) in let (to, low) = later_here in let near = (pass_to a.log.now at.at behind at.invariant.0.within to_kind).1 in let marked = c.mark-links.ensures in ( rw same at in_group, counting_to a.log.now at.at behind at.invariant.0.within at.seen at.links at.invariant.5 (8 * c.in-Taken.from) c.in-Taken-to_word.to c.mark-links.result c.mark-links.new.seen to_kind to (omega (arith, low, c.requires.1)) at.invariant.7 at.invariant.6 marked.0 marked.1, omega (arith, near, at.invariant.6), omega (arith, near, at.invariant.7), ) in
-    let test = c.to_before_last in
-    let (in_group, counting, row, near) = taken_here in (
-      in_group,
-      sym test.ensures ∙ c.if-not-to_before_last.false,
+    let a = c.args in
+    let at = c.loop-to in
+    let w = c.in-Taken-to_word in
+    let others : ℕ = c.log.others + 1 in
+    let behind : 0 < at.at = omega (arith, at.invariant.0.behind_from) in
+    let group =
+    passed a.most a.log.now a.n at.at others (omega arith)
+    (to_taken a.most a.log.now a.n at.at (at.at - others) c.to_word.result w.field-0 w.to at.invariant.0 at.invariant.1 c.to_word.ensures w.field-2 w.is) in
+    let episode = to_episode_lem a.most a.log.now a.n at.at (at.at - others) c.to_word.result w.field-0 w.to at.invariant.0 at.invariant.1 c.to_word.ensures w.field-2 w.is in
+    let (counting, row, near) =
+    counted a.log.now a.n at.at (8 * c.in-Taken.from) w.to c.mark-links.result at.links at.seen c.mark-links.new.seen c.requires.1 behind at.invariant.0.within at.invariant.1
+    at.invariant.5 at.invariant.6 at.invariant.7 episode c.mark-links.ensures in (
+      group,
+      sym c.to_before_last.ensures ∙ c.if-not-to_before_last.false,
       omega arith,
       omega arith,
       omega (arith, c.mark-links.ensures.1),

@@ -19,8 +19,7 @@ returns-in_default c =
 
 pub count_to_stop-stop-requires : goal.count_to_stop-stop-requires
 count_to_stop-stop-requires c =
-    let head = c.head_word-head in
-    (
+    let head = c.head_word-head in (
       omega arith,
       omega (arith, c.requires, head_few c.args.most c.args.log.now (omega arith) head.result head.ensures c.in-Taken.field-0 c.in-Taken.n c.in-Taken.field-2 c.in-Taken.is),
       refl,

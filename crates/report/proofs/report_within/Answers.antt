@@ -30,8 +30,7 @@ returns-then-work-end c =
 
 pub solve-requires : goal.solve-requires
 solve-requires c =
-    let passed_here : questions c.args.most c.args.log.now ≡ given (c.in-Passed.n, c.in-Passed.field-1) = told c.read_within.ensures c.in-Passed.is in
-    (
+    let passed_here : questions c.args.most c.args.log.now ≡ given (c.in-Passed.n, c.in-Passed.field-1) = told c.read_within.ensures c.in-Passed.is in (
       passed_log c.args.most c.args.log.now c.args.out.now c.args.work.now c.in-Passed.n c.in-Passed.field-1 passed_here c.requires,
       graph_episodes c.args.most c.args.log.now c.in-Passed.n c.in-Passed.field-1 passed_here,
       passed_few c.args.most c.args.log.now c.args.out.now c.args.work.now c.in-Passed.n c.in-Passed.field-1 passed_here c.requires,

@@ -61,13 +61,12 @@ pub loop-rest-smaller : goal.loop-rest-smaller
 loop-rest-smaller c = rest_less c.loop-rest.invariant.1 (omega arith)
 
 pub loop-rest-preserved : goal.loop-rest-preserved
-loop-rest-preserved c =
-    (
-      count_trailing_zeros 32 c.loop-rest.rest + 1,
-      rest_on c.loop-rest.invariant.1 (omega arith),
-      λ test o tells s fits.
-          bit_written c.args.first tells c.requires.1 c.loop-rest.invariant.1 (c.loop-rest.invariant.2 test o tells s fits) (omega arith) fits,
-    )
+loop-rest-preserved c = (
+  count_trailing_zeros 32 c.loop-rest.rest + 1,
+  rest_on c.loop-rest.invariant.1 (omega arith),
+  λ test o tells s fits.
+      bit_written c.args.first tells c.requires.1 c.loop-rest.invariant.1 (c.loop-rest.invariant.2 test o tells s fits) (omega arith) fits,
+)
 
 pub shape_of-out : goal.shape_of-out
 shape_of-out c =

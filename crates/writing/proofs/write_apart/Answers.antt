@@ -15,11 +15,6 @@ loop-v-init c =
     let a = c.args in
     listing_none (member_test (tables a.w.now)) (word 5) a.out.now a.n (omega arith)
 
-pub is_member-requires : goal.is_member-requires
-is_member-requires c =
-    let h = c.requires.2.next_le c.loop-v.v (omega arith) in
-    (omega arith, omega arith, omega arith)
-
 pub loop-v-preserved : goal.loop-v-preserved
 loop-v-preserved c =
     let a = c.args in
@@ -34,12 +29,3 @@ loop-v-preserved c =
           rw (p.k-is, p.out-is)
           (listing_same (member_test (tables a.w.now)) (word 5) a.out.now at.out a.n at.k at.v at.invariant (omega arith) (test ∙ p.if-is_member.false))
     ]
-
-pub shape_of-out : goal.shape_of-out
-shape_of-out c = simp length-set c.loop-v.invariant.same_length
-
-pub returns : goal.returns
-returns c =
-    let a = c.args in
-    let at = c.loop-v in
-    apart_done a.w.now a.out.now at.out a.n at.k at.v at.invariant (omega arith)

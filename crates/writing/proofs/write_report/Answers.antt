@@ -7,25 +7,6 @@ use Rattle.writing.specs.Layout.{report_need}
 use Rattle.writing.proofs.Reporting.{report_few, apart_le, apart_fits, threads_room, end_lt, whole_length, report_written}
 use Rattle.writing.proofs.write_report.Goals as goal
 
--- the apart set is small
-apart_small : (c : goal.After-slice_known-2-1) → c.write_apart-start.result < 256
-apart_small c =
-    let few = c.requires.0.1.few in
-    let le = apart_le c.write_apart-start.ensures in
-    omega arith
-
-pub overflow_add-start : goal.overflow_add-start
-overflow_add-start c = omega (arith, apart_small c)
-
-pub offset_bounds-out-start : goal.offset_bounds-out-start
-offset_bounds-out-start c = omega (arith, apart_small c)
-
-pub slice_bounds-write_threads-count : goal.slice_bounds-write_threads-count
-slice_bounds-write_threads-count c = apart_fits c.write_apart-start.ensures c.requires.1
-
-pub slice_bounds-write_threads-start : goal.slice_bounds-write_threads-start
-slice_bounds-write_threads-start c = apart_fits c.write_apart-start.ensures c.requires.1
-
 pub write_threads-requires : goal.write_threads-requires
 write_threads-requires c =
     let p = c.requires in
@@ -45,17 +26,11 @@ end_small c =
     let few = report_few c.args.n c.requires.0.1.few in
     omega (arith, end_room c)
 
-pub overflow_add-end : goal.overflow_add-end
-overflow_add-end c = omega (arith, end_small c)
-
 pub overflow_cast-out : goal.overflow_cast-out
 overflow_cast-out c = omega (arith, end_small c)
 
 pub overflow_add-out : goal.overflow_add-out
 overflow_add-out c = omega (arith, end_small c)
-
-pub offset_bounds-out-end : goal.offset_bounds-out-end
-offset_bounds-out-end c = omega (arith, end_small c)
 
 pub bounds-out-end : goal.bounds-out-end
 bounds-out-end c =
@@ -63,14 +38,6 @@ bounds-out-end c =
     let same = whole_length c.write_apart-start.ensures c.write_threads.ensures in
     let lt = end_room c in
     omega arith
-
-pub overflow_add-result : goal.overflow_add-result
-overflow_add-result c = omega (arith, end_small c)
-
-pub shape_of-out : goal.shape_of-out
-shape_of-out c =
-    rw length-set
-    (whole_length c.write_apart-start.ensures c.write_threads.ensures)
 
 pub returns : goal.returns
 returns c =

@@ -10,72 +10,24 @@ use Rattle.searching.specs.State.{tables}
 use Rattle.writing.proofs.Filling.{starts_room, filling_starts, filling_length, filling_at, filling_le, filling_room, next_way, filling_more, filling_less, filling_ends, written_over}
 use Rattle.writing.proofs.write_thread.Goals as goal
 
-pub chain_start-at-requires : goal.chain_start-at-requires
-chain_start-at-requires c = let p = c.requires in (p.0.0, c.args.n, p.0.1, p.1)
-
 -- the chain's first episode is below n, so it is small, and there is room for it
 start_below : (c : goal.After-chain_start-at) → c.chain_start-at.result < c.args.n
 start_below c =
     c.chain_start-at.ensures.below c.args.n c.requires.0.1.matching c.requires.1
-
-start_small : (c : goal.After-chain_start-at) → c.chain_start-at.result < 256
-start_small c =
-    let few = c.requires.0.1.few in
-    let h = start_below c in
-    omega arith
 
 start_room : (c : goal.After-chain_start-at) → 1 < length c.args.out.now
 start_room c =
     let p = c.requires.0 in
     starts_room c.args.out.now (start_below c) p.1 p.2
 
-pub overflow_cast-out : goal.overflow_cast-out
-overflow_cast-out c = omega (arith, start_small c)
-
-pub overflow_add-out : goal.overflow_add-out
-overflow_add-out c = omega (arith, start_small c)
-
 pub bounds-out-1 : goal.bounds-out-1
 bounds-out-1 c = start_room c
-
-pub overflow_add-next : goal.overflow_add-next
-overflow_add-next c = omega (arith, start_small c)
-
-pub offset_bounds-w-at : goal.offset_bounds-w-at
-offset_bounds-w-at c = omega (arith, start_small c)
-
-pub bounds-w-at : goal.bounds-w-at
-bounds-w-at c =
-    let start_below_here : c.chain_start-at.result < c.args.n = c.chain_start-at.ensures.below c.args.n c.requires.0.1.matching c.requires.1 in
-    let start_small_here : c.chain_start-at.result < 256 = let few = c.requires.0.1.few in let h = start_below_here in omega arith in
-    omega (arith, start_small_here, c.requires.0.1.long)
-
-pub overflow_cast-next : goal.overflow_cast-next
-overflow_cast-next c = Fits-widen tt (c.type_inv.w _)
 
 pub loop-next-init : goal.loop-next-init
 loop-next-init c =
     let start_below_here : c.chain_start-at.result < c.args.n = c.chain_start-at.ensures.below c.args.n c.requires.0.1.matching c.requires.1 in
     let start_room_here : 1 < length c.args.out.now = let p = c.requires.0 in starts_room c.args.out.now start_below_here p.1 p.2 in
     (filling_starts c.args.out.now start_below_here c.chain_start-at.ensures start_room_here, refl)
-
-pub offset_bounds-out-count : goal.offset_bounds-out-count
-offset_bounds-out-count c = omega (arith, filling_le c.loop-next.invariant.0 c.requires.0.1, c.requires.0.1.few)
-
-pub slice_bounds-write_path-count : goal.slice_bounds-write_path-count
-slice_bounds-write_path-count c = filling_at c.loop-next.invariant.0
-
-pub slice_bounds-write_path-start : goal.slice_bounds-write_path-start
-slice_bounds-write_path-start c = filling_at c.loop-next.invariant.0
-
--- the target is the next of the chain, and a way leads to it
-next_target : (c : goal.In-loop-next) → (tables c.args.w.now).next c.loop-next.at ≡ c.loop-next.next - 1 + 1
-next_target c = omega (arith, c.loop-next.invariant.1)
-
-target_way : (c : goal.In-loop-next)
-    → (c.loop-next.next - 1 < c.args.n)
-    × (bit c.args.w.now (ways_at + 8 * c.loop-next.at) (c.loop-next.next - 1) ≡ 1)
-target_way c = next_way c.loop-next.invariant.0 (next_target c) c.requires.0.1
 
 pub write_path-count-requires : goal.write_path-count-requires
 write_path-count-requires c =
@@ -89,34 +41,6 @@ write_path-count-requires c =
       target_way_here.0,
       target_way_here.1,
     )
-
-pub overflow_add-count : goal.overflow_add-count
-overflow_add-count c =
-    let next_target_here : (tables c.args.w.now).next c.loop-next.at ≡ c.loop-next.next - 1 + 1 = omega (arith, c.loop-next.invariant.1) in
-    let longer_here : (0 < c.write_path-count.result) × (c.loop-next.count + c.write_path-count.result ≤ c.args.n + 1) = filling_less c.loop-next.invariant.0 next_target_here c.requires.0.1 c.write_path-count.ensures in
-    omega (arith, longer_here.1, c.requires.0.1.few)
-
-pub overflow_add-next-in-loop-next : goal.overflow_add-next-in-loop-next
-overflow_add-next-in-loop-next c =
-    let next_target_here : (tables c.args.w.now).next c.loop-next.at ≡ c.loop-next.next - 1 + 1 = omega (arith, c.loop-next.invariant.1) in
-    let target_way_here : (c.loop-next.next - 1 < c.args.n) × (bit c.args.w.now (ways_at + 8 * c.loop-next.at) (c.loop-next.next - 1) ≡ 1) = next_way c.loop-next.invariant.0 next_target_here c.requires.0.1 in
-    omega (arith, target_way_here.0, c.requires.0.1.few)
-
-pub offset_bounds-w-at-in-loop-next : goal.offset_bounds-w-at-in-loop-next
-offset_bounds-w-at-in-loop-next c =
-    let next_target_here : (tables c.args.w.now).next c.loop-next.at ≡ c.loop-next.next - 1 + 1 = omega (arith, c.loop-next.invariant.1) in
-    let target_way_here : (c.loop-next.next - 1 < c.args.n) × (bit c.args.w.now (ways_at + 8 * c.loop-next.at) (c.loop-next.next - 1) ≡ 1) = next_way c.loop-next.invariant.0 next_target_here c.requires.0.1 in
-    omega (arith, target_way_here.0, c.requires.0.1.few)
-
-pub bounds-w-at-in-loop-next : goal.bounds-w-at-in-loop-next
-bounds-w-at-in-loop-next c =
-    let next_target_here : (tables c.args.w.now).next c.loop-next.at ≡ c.loop-next.next - 1 + 1 = omega (arith, c.loop-next.invariant.1) in
-    let target_way_here : (c.loop-next.next - 1 < c.args.n) × (bit c.args.w.now (ways_at + 8 * c.loop-next.at) (c.loop-next.next - 1) ≡ 1) = next_way c.loop-next.invariant.0 next_target_here c.requires.0.1 in
-    let q = c.requires.0.1 in
-    omega (arith, target_way_here.0, q.few, q.long)
-
-pub overflow_cast-next-in-loop-next : goal.overflow_cast-next-in-loop-next
-overflow_cast-next-in-loop-next c = Fits-widen tt (c.type_inv.w _)
 
 pub loop-next-smaller : goal.loop-next-smaller
 loop-next-smaller c =
@@ -135,26 +59,11 @@ last_small c =
     let q = c.requires.0.1 in
     omega (arith, q.few, filling_le c.loop-next.invariant.0 q)
 
-pub overflow_sub-out : goal.overflow_sub-out
-overflow_sub-out c = omega (arith, c.loop-next.invariant.0.size)
-
 pub overflow_cast-out-2 : goal.overflow_cast-out-2
 overflow_cast-out-2 c = omega (arith, last_small c)
 
 pub overflow_add-out-2 : goal.overflow_add-out-2
 overflow_add-out-2 c = omega (arith, last_small c)
-
-pub bounds-out-0 : goal.bounds-out-0
-bounds-out-0 c =
-    let start_below_here : c.chain_start-at.result < c.args.n = c.chain_start-at.ensures.below c.args.n c.requires.0.1.matching c.requires.1 in
-    let start_room_here : 1 < length c.args.out.now = let p = c.requires.0 in starts_room c.args.out.now start_below_here p.1 p.2 in
-    let same_out_here : length c.loop-next.out ≡ length c.args.out.now = filling_length c.loop-next.invariant.0 ∙ length-set c.args.out.now 1 (word 7 c.chain_start-at.result) in
-    omega (arith, start_room_here, same_out_here)
-
-pub shape_of-out : goal.shape_of-out
-shape_of-out c =
-    let same_out_here : length c.loop-next.out ≡ length c.args.out.now = filling_length c.loop-next.invariant.0 ∙ length-set c.args.out.now 1 (word 7 c.chain_start-at.result) in
-    simp length-set same_out_here
 
 pub returns : goal.returns
 returns c =
