@@ -1,77 +1,79 @@
 // What is printed: lines on standard output, with one space before each figure.
-use libc::{STDERR_FILENO, STDOUT_FILENO};
+use std::io;
 
-fn write(text: &[u8]) {
-    io::write_all(STDOUT_FILENO, text);
+fn write(rt: &impl Print, text: &[u8]) -> io::Result<()> {
+    rt.write_all(text)
 }
 
-fn end_line() {
-    write(b"\n");
+fn end_line(rt: &impl Print) -> io::Result<()> {
+    println!(rt)
 }
 
 // A text, and a figure behind it.
-fn figure(text: &[u8], x: usize) {
-    write(text);
-    write(b" ");
-    io::print_decimal(STDOUT_FILENO, x as u64);
+fn figure(rt: &impl Print, text: &[u8], x: usize) -> io::Result<()> {
+    write(rt, text)?;
+    print!(rt; " {x}")
 }
 
 // The number of a word as a figure, where the word is of the kind.
-fn number(kind: u32, w: u32) {
+fn number(rt: &impl Print, kind: u32, w: u32) -> io::Result<()> {
     if logs::kind_of(w) == kind {
-        figure(b"", logs::number_of(w));
+        figure(rt, b"", logs::number_of(w))
+    } else {
+        Ok(())
     }
 }
 
 // The numbers of the words of a kind, on the line that `name` begins.
-fn numbers(name: &[u8], kind: u32, words: &[u32]) {
-    write(name);
-    for i in 0..words.len() {
-        number(kind, words[i]);
+fn numbers(rt: &impl Print, name: &[u8], kind: u32, words: &[u32]) -> io::Result<()> {
+    write(rt, name)?;
+    for w in words {
+        number(rt, kind, *w)?;
     }
-    end_line();
+    end_line(rt)
 }
 
 // Thread `i` of a report.
-fn thread(report: &[u32], i: usize) {
-    numbers(b"thread", 7, threads::thread_steps(report, i));
+fn thread(rt: &impl Print, report: &[u32], i: usize) -> io::Result<()> {
+    numbers(rt, b"thread", 7, threads::thread_steps(report, i))
 }
 
 // The first `count` threads of a report.
-fn threads(report: &[u32], count: usize) {
+fn threads(rt: &impl Print, report: &[u32], count: usize) -> io::Result<()> {
     for i in 0..count {
-        thread(report, i);
+        thread(rt, report, i)?;
     }
+    Ok(())
 }
 
 // A name and its figure, as a line.
-fn line(name: &[u8], x: usize) {
-    figure(name, x);
-    end_line();
+fn line(rt: &impl Print, name: &[u8], x: usize) -> io::Result<()> {
+    figure(rt, name, x)?;
+    end_line(rt)
 }
 
 // A report on a log with `n` episodes and `links` different links.
-pub fn report(n: usize, links: usize, report: &[u32]) {
-    line(b"episodes", n);
-    line(b"links", links);
+pub fn report(rt: &impl Print, n: usize, links: usize, report: &[u32]) -> io::Result<()> {
+    line(rt, b"episodes", n)?;
+    line(rt, b"links", links)?;
     let width = parsing::width(report);
-    line(b"width", width);
-    numbers(b"apart", 5, report);
-    threads(report, width);
+    line(rt, b"width", width)?;
+    numbers(rt, b"apart", 5, report)?;
+    threads(rt, report, width)
 }
 
-pub fn refusal(number: u32, place: usize) {
-    figure(b"refused", number as usize);
-    line(b" at", place);
+pub fn refusal(rt: &impl Print, number: u32, place: usize) -> io::Result<()> {
+    figure(rt, b"refused", number as usize)?;
+    line(rt, b" at", place)
 }
 
 // Refusal 13, and the loop: `steps` are the words of its episodes.
-pub fn cycle(length: usize, steps: &[u32]) {
-    refusal(13, length);
-    numbers(b"loop", 7, steps);
+pub fn cycle(rt: &impl Print, length: usize, steps: &[u32]) -> io::Result<()> {
+    refusal(rt, 13, length)?;
+    numbers(rt, b"loop", 7, steps)
 }
 
 // Says on standard error that standard input cannot be read. Nothing of a report is printed then.
-pub fn unreadable() {
-    io::write_all(STDERR_FILENO, b"standard input cannot be read\n");
+pub fn unreadable(rt: &impl Eprint) -> io::Result<()> {
+    eprintln!(rt; "standard input cannot be read")
 }

@@ -1,44 +1,25 @@
 // The bytes of standard input.
-ghost use Rattle.io.specs.Counts.{IsPrefixLen};
+ghost use Rattle.std.specs.Prelude.{IfOk, ◌<◌, length, take};
+ghost use Rattle.std.specs.Io.{ReadsAtMost};
+ghost use Rattle.std.specs.Io.KnownBytes.{Consumes, IsAtEnd};
 
-use libc::STDIN_FILENO;
+use std::io;
+use std::io::Read;
 
-// How many bytes were read, and whether the last read failed.
-#[derive(Clone, Copy)]
-pub struct Read {
-    pub count: usize,
-    pub failed: bool,
-}
-
-// One read: no byte at the end of the input, or where it fails.
-fn read_some(buffer: &mut [u8]) -> Read
-    ensures { IsPrefixLen result.count buffer.new }
-{
-    let got = libc::read(STDIN_FILENO, buffer);
-    Read {
-        count: io::count(got, buffer),
-        failed: got < 0,
-    }
-}
-
-// Reads until the buffer is full, the input ends or a read fails. (`io::read_full` does not tell the end from a failure.)
-pub fn read_all(buffer: &mut [u8]) -> Read
-    ensures { IsPrefixLen result.count buffer.new }
+// Reads until the buffer is full or the input ends, and gives the count of bytes that it put at the start of the buffer; the error where
+// a read fails.
+pub fn read_all<R: Read>(reader: &mut R, buffer: &mut [u8]) -> io::Result<usize>
+    ensures within { ReadsAtMost result buffer.new }
+    ensures bytes { IfOk result (λ n. Consumes (R.remaining reader.old) (R.remaining reader.new) (take n buffer.new)) }
+    ensures end { IfOk result (λ n. n < length buffer.new → IsAtEnd (R.remaining reader.new)) }
 {
     let mut done = 0;
     while done < buffer.len() {
-        let some = read_some(&mut buffer[done..]);
-        let more = some.count;
+        let more = reader.read(&mut buffer[done..])?;
         if more == 0 {
-            return Read {
-                count: done,
-                failed: some.failed,
-            };
+            return Ok(done);
         }
         done += more;
     }
-    Read {
-        count: done,
-        failed: false,
-    }
+    Ok(done)
 }

@@ -1,16 +1,17 @@
 // The trials of the file stdin, a line for each: its parts, and the call that it asks for.
-ghost use Rattle.std.specs.Prelude.{◌≤◌, length};
+ghost use Rattle.std.specs.Prelude.{◌≡◌, ◌≢◌, ℕ, ◌<◌, ◌≤◌, length, slice_index};
 
 use crate::show;
 use crate::show::Service;
-use bytes::scan::find;
-use check::same;
+use std::io;
 
 // The place of the first byte `b`, or the length where there is none.
 fn place_of(text: &[u8], b: u8) -> usize
-    ensures { result ≤ length text.now }
+    ensures within { result ≤ length text.now }
+    ensures before { (k : ℕ) → k < result → slice_index text.now k ≢ b }
+    ensures found { result < length text.now → slice_index text.now result ≡ b }
 {
-    find(text, 0, text.len(), b)
+    text.iter().position(|x| *x == b).unwrap_or(text.len())
 }
 
 // What stands before the first space.
@@ -92,134 +93,126 @@ fn read_words(text: &[u8], words: &mut [u32]) -> bool {
 }
 
 // The trial of a reading: `text` is NAME.
-fn reading(text: &[u8], words: &[u32]) -> bool {
+fn reading(rt: &impl Print, text: &[u8], words: &[u32]) -> io::Result<bool> {
     if text.len() == 0 {
-        return false;
+        return Ok(false);
     }
-    show::reading(text, words);
-    true
+    show::reading(rt, text, words)?;
+    Ok(true)
 }
 
 // The trial of a link count: `text` is NAME.
-fn links(text: &[u8], words: &[u32]) -> bool {
+fn links(rt: &impl Print, text: &[u8], words: &[u32]) -> io::Result<bool> {
     if text.len() == 0 {
-        return false;
+        return Ok(false);
     }
-    show::links(text, words);
-    true
+    show::links(rt, text, words)?;
+    Ok(true)
 }
 
 // The trial of one thread: `text` is I NAME.
-fn thread(text: &[u8], words: &[u32]) -> bool {
+fn thread(rt: &impl Print, text: &[u8], words: &[u32]) -> io::Result<bool> {
     let Number::Of(i) = decimal(first(text)) else {
-        return false;
+        return Ok(false);
     };
     let name = rest(text);
     if name.len() == 0 {
-        return false;
+        return Ok(false);
     }
-    show::thread(name, words, i);
-    true
+    show::thread(rt, name, words, i)?;
+    Ok(true)
 }
 
 // The trial of a service with `lent` output words: `text` is WORK NAME.
-fn lending(service: Service, lent: usize, text: &[u8], words: &[u32]) -> bool
+fn lending(
+    rt: &impl Print,
+    service: Service,
+    lent: usize,
+    text: &[u8],
+    words: &[u32],
+) -> io::Result<bool>
     requires { lent ≤ 64 }
 {
     let Number::Of(work) = decimal(first(text)) else {
-        return false;
+        return Ok(false);
     };
     let name = rest(text);
     if name.len() == 0 {
-        return false;
+        return Ok(false);
     }
     if 16400 < work {
-        return false;
+        return Ok(false);
     }
-    show::call(service, name, words, lent, work);
-    true
+    show::call(rt, service, name, words, lent, work)?;
+    Ok(true)
 }
 
 // The same: `text` is LENT WORK NAME.
-fn call(service: Service, text: &[u8], words: &[u32]) -> bool {
+fn call(rt: &impl Print, service: Service, text: &[u8], words: &[u32]) -> io::Result<bool> {
     let Number::Of(lent) = decimal(first(text)) else {
-        return false;
+        return Ok(false);
     };
     if 64 < lent {
-        return false;
+        return Ok(false);
     }
-    lending(service, lent, rest(text), words)
+    lending(rt, service, lent, rest(text), words)
 }
 
 // Makes the trial that the first word of a line asks for. False where it asks for none.
-fn choose(word: &[u8], text: &[u8], words: &[u32]) -> bool {
-    if same(word, b"read") {
-        return reading(text, words);
+fn choose(rt: &impl Print, word: &[u8], text: &[u8], words: &[u32]) -> io::Result<bool> {
+    match word {
+        b"read" => reading(rt, text, words),
+        b"links" => links(rt, text, words),
+        b"report" => call(rt, Service::Report, text, words),
+        b"copy" => call(rt, Service::FairCopy, text, words),
+        b"trim" => call(rt, Service::TrimmedCopy, text, words),
+        b"thread" => thread(rt, text, words),
+        _ => Ok(false),
     }
-    if same(word, b"links") {
-        return links(text, words);
-    }
-    if same(word, b"report") {
-        return call(Service::Report, text, words);
-    }
-    if same(word, b"copy") {
-        return call(Service::FairCopy, text, words);
-    }
-    if same(word, b"trim") {
-        return call(Service::TrimmedCopy, text, words);
-    }
-    if same(word, b"thread") {
-        return thread(text, words);
-    }
-    false
 }
 
 // Makes the trial of a line: `head` stands before its colon and `text` behind it, and `words` are zero. False where the line is none.
-fn make(head: &[u8], text: &[u8], words: &mut [u32]) -> bool {
+fn make(rt: &impl Print, head: &[u8], text: &[u8], words: &mut [u32]) -> io::Result<bool> {
     if !read_words(text, words) {
-        return false;
+        return Ok(false);
     }
     let count = text.len() / 9;
     if words.len() < count {
-        return false;
+        return Ok(false);
     }
-    choose(first(head), rest(head), &words[0..count])
+    choose(rt, first(head), rest(head), &words[0..count])
 }
 
 // Makes the trial of a line. False where the line is none.
-fn trial(line: &[u8]) -> bool {
+fn trial(rt: &impl Print, line: &[u8]) -> io::Result<bool> {
     let colon = place_of(line, b':');
     if colon == line.len() {
-        return false;
+        return Ok(false);
     }
     let mut words = [0u32; 64];
-    make(&line[0..colon], &line[colon + 1..], &mut words)
+    make(rt, &line[0..colon], &line[colon + 1..], &mut words)
 }
 
 // Makes the trial of a line, or says that it is none; passes over blank lines and comments.
-fn one(line: &[u8]) {
+fn one(rt: &impl Print, line: &[u8]) -> io::Result<()> {
     if line.len() == 0 {
-        return;
+        return Ok(());
     }
     if line[0] == b'#' {
-        return;
+        return Ok(());
     }
-    if !trial(line) {
-        show::write(b"not a trial: ");
-        show::write(line);
-        show::end_line();
+    if !trial(rt, line)? {
+        show::write(rt, b"not a trial: ")?;
+        show::write(rt, line)?;
+        show::end_line(rt)?;
     }
+    Ok(())
 }
 
 // Makes the trials of all lines.
-pub fn all(text: &[u8]) {
-    let mut at = 0;
-    while at < text.len() {
-        let end = find(text, at, text.len(), b'\n');
-        one(&text[at..end]);
-        if end == text.len() {
-            return;
-        }
-        at = end + 1;
+pub fn all(rt: &impl Print, text: &[u8]) -> io::Result<()> {
+    for line in text.split(|b| *b == b'\n') {
+        one(rt, line)?;
     }
+    Ok(())
 }

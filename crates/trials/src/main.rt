@@ -6,18 +6,21 @@
 mod full;
 mod lines;
 mod show;
+mod stdin;
 mod words;
 
-fn main() {
-    let mut buffer = io::large_buffer();
-    let count = io::read_full(libc::STDIN_FILENO, &mut buffer);
-    lines::all(&buffer[..count]);
+use std::io;
+
+fn main(rt: HostRuntime) -> io::Result<()> {
+    let mut buffer = [0u8; 65536];
+    let count = stdin::read_all(&mut rt.stdin(), &mut buffer)?;
+    lines::all(&rt, &buffer[..count])?;
     if count == buffer.len() {
-        show::write(b"stdin is too long\n");
+        show::write(&rt, b"stdin is too long\n")?;
     }
-    full::one_group();
-    full::last_too_large();
-    full::pairs();
-    full::chains();
-    full::single_episodes();
+    full::one_group(&rt)?;
+    full::last_too_large(&rt)?;
+    full::pairs(&rt)?;
+    full::chains(&rt)?;
+    full::single_episodes(&rt)
 }

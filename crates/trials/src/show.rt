@@ -2,10 +2,10 @@
 ghost use Rattle.std.specs.Prelude.{◌≤◌, length};
 
 use fair_copy::CopyOutcome;
-use libc::STDOUT_FILENO;
 use link_count::LinkCount;
 use logs::Reading;
 use report::Outcome;
+use std::io;
 use trimmed_copy::TrimOutcome;
 
 // The services that write to a lent output.
@@ -16,69 +16,68 @@ pub enum Service {
     TrimmedCopy,
 }
 
-pub fn write(text: &[u8]) {
-    io::write_all(STDOUT_FILENO, text);
+pub fn write(rt: &impl Print, text: &[u8]) -> io::Result<()> {
+    rt.write_all(text)
 }
 
-pub fn end_line() {
-    write(b"\n");
+pub fn end_line(rt: &impl Print) -> io::Result<()> {
+    println!(rt)
 }
 
-fn write_number(x: usize) {
-    io::print_decimal(STDOUT_FILENO, x as u64);
+fn write_number(rt: &impl Print, x: usize) -> io::Result<()> {
+    print!(rt; "{x}")
 }
 
 // A text, and a number behind it.
-fn write_figure(text: &[u8], x: usize) {
-    write(text);
-    write_number(x);
+fn write_figure(rt: &impl Print, text: &[u8], x: usize) -> io::Result<()> {
+    write(rt, text)?;
+    write_number(rt, x)
 }
 
-fn write_refusal(number: u32, place: usize) {
-    write_figure(b"refused ", number as usize);
-    write_figure(b" at ", place);
+fn write_refusal(rt: &impl Print, number: u32, place: usize) -> io::Result<()> {
+    write_figure(rt, b"refused ", number as usize)?;
+    write_figure(rt, b" at ", place)
 }
 
 // The answer of the reading, on the line that `name` begins.
-pub fn reading(name: &[u8], words: &[u32]) {
-    write(name);
-    write(b": ");
+pub fn reading(rt: &impl Print, name: &[u8], words: &[u32]) -> io::Result<()> {
+    write(rt, name)?;
+    write(rt, b": ")?;
     match logs::read(words) {
         Reading::Passed(n, count) => {
-            write_figure(b"episodes ", n);
-            write_figure(b" to words ", count);
+            write_figure(rt, b"episodes ", n)?;
+            write_figure(rt, b" to words ", count)?;
         }
-        Reading::Refused(number, place) => write_refusal(number, place),
+        Reading::Refused(number, place) => write_refusal(rt, number, place)?,
     }
-    end_line();
+    end_line(rt)
 }
 
 // What each word of the buffers holds before a call.
 const MARK: u32 = 0xABCD_EF01;
 
-fn write_word(w: u32) {
-    write(b" ");
-    io::print_hex(STDOUT_FILENO, w as u64, 8);
+fn write_word(rt: &impl Print, w: u32) -> io::Result<()> {
+    print!(rt; " {w:08x}")
 }
 
 // The first `count` words.
-fn write_words(buffer: &[u32], count: usize) {
-    for i in 0..buffer.len() {
-        if i < count {
-            write_word(buffer[i]);
-        }
+fn write_words(rt: &impl Print, buffer: &[u32], count: usize) -> io::Result<()> {
+    for w in buffer.iter().take(count) {
+        write_word(rt, *w)?;
     }
+    Ok(())
 }
 
-fn write_number_of(w: u32) {
-    write_figure(b" ", logs::number_of(w));
+fn write_number_of(rt: &impl Print, w: u32) -> io::Result<()> {
+    write_figure(rt, b" ", logs::number_of(w))
 }
 
 // The numbers of the words.
-fn write_numbers(words: &[u32]) {
-    for i in 0..words.len() {
-        write_number_of(words[i]);
+fn write_numbers(rt: &impl Print, words: &[u32]) -> io::Result<()> {
+    for w in words {
+        write_number_of(rt, *w)?;
     }
+    Ok(())
 }
 
 // 1 where the two words differ.
@@ -98,96 +97,100 @@ fn others(buffer: &[u32], x: u32) -> usize {
 }
 
 // Says so where some of the words are not `x`.
-fn expect(words: &[u32], x: u32) {
+fn expect(rt: &impl Print, words: &[u32], x: u32) -> io::Result<()> {
     let count = others(words, x);
     if count != 0 {
-        write_figure(b"; words not as they should be: ", count);
+        write_figure(rt, b"; words not as they should be: ", count)?;
     }
+    Ok(())
 }
 
 // Says so where the first 16,384 work words are not zero, or those behind them do not hold the mark.
-fn expect_cleared(scratch: &[u32])
+fn expect_cleared(rt: &impl Print, scratch: &[u32]) -> io::Result<()>
     requires { 16384 ≤ length scratch.now }
 {
-    expect(&scratch[0..16384], 0);
-    expect(&scratch[16384..], MARK);
+    expect(rt, &scratch[0..16384], 0)?;
+    expect(rt, &scratch[16384..], MARK)
 }
 
 // Says so where some word of the buffers does not hold the mark.
-fn expect_kept(out: &[u32; 64], scratch: &[u32; 16400]) {
-    expect(out, MARK);
-    expect(scratch, MARK);
+fn expect_kept(rt: &impl Print, out: &[u32; 64], scratch: &[u32; 16400]) -> io::Result<()> {
+    expect(rt, out, MARK)?;
+    expect(rt, scratch, MARK)
 }
 
 // The first `count` words of the output; says so where those behind them do not hold the mark.
-fn write_output(out: &[u32], count: usize) {
-    write_words(out, count);
+fn write_output(rt: &impl Print, out: &[u32], count: usize) -> io::Result<()> {
+    write_words(rt, out, count)?;
     if count <= out.len() {
-        expect(&out[count..], MARK);
+        expect(rt, &out[count..], MARK)?;
     }
+    Ok(())
 }
 
 // What asking for thread `i` gives: its episodes, or the refusal; and how many words the stretch has where it should be empty.
-fn write_thread(report: &[u32], i: usize) {
+fn write_thread(rt: &impl Print, report: &[u32], i: usize) -> io::Result<()> {
     let number = threads::thread_number(report, i);
     let steps = threads::thread_steps(report, i);
     if number == 0 {
-        write(b"thread");
-        write_numbers(steps);
+        write(rt, b"thread")?;
+        write_numbers(rt, steps)?;
     } else {
-        write_figure(b"refused ", number as usize);
+        write_figure(rt, b"refused ", number as usize)?;
         if steps.len() != 0 {
-            write_figure(b"; words not as they should be: ", steps.len());
+            write_figure(rt, b"; words not as they should be: ", steps.len())?;
         }
     }
+    Ok(())
 }
 
-fn write_next(report: &[u32], i: usize) {
-    write(b"; ");
-    write_thread(report, i);
+fn write_next(rt: &impl Print, report: &[u32], i: usize) -> io::Result<()> {
+    write(rt, b"; ")?;
+    write_thread(rt, report, i)
 }
 
 // What asking for the first `count` threads gives.
-fn write_threads(report: &[u32], count: usize) {
+fn write_threads(rt: &impl Print, report: &[u32], count: usize) -> io::Result<()> {
     for i in 0..count {
-        write_next(report, i);
+        write_next(rt, report, i)?;
     }
+    Ok(())
 }
 
 // Each thread of a report of `count` words, and what is answered behind the last.
-fn write_all_threads(out: &[u32], count: usize) {
+fn write_all_threads(rt: &impl Print, out: &[u32], count: usize) -> io::Result<()> {
     if out.len() < count {
-        return;
+        return Ok(());
     }
     if count == 0 {
-        return;
+        return Ok(());
     }
-    write_threads(&out[0..count], logs::number_of(out[0]) + 1);
+    write_threads(rt, &out[0..count], logs::number_of(out[0]) + 1)
 }
 
 // The start of a line: the call, and the name of the trial.
-fn write_start(call: &[u8], name: &[u8]) {
-    write(call);
-    write(name);
-    write(b": ");
+fn write_start(rt: &impl Print, call: &[u8], name: &[u8]) -> io::Result<()> {
+    write(rt, call)?;
+    write(rt, name)?;
+    write(rt, b": ")
 }
 
 // The link count, as a line.
-pub fn links(name: &[u8], words: &[u32]) {
-    write_start(b"links of ", name);
+pub fn links(rt: &impl Print, name: &[u8], words: &[u32]) -> io::Result<()> {
+    write_start(rt, b"links of ", name)?;
     match link_count::link_count(words) {
-        LinkCount::Counted(links) => write_figure(b"links ", links),
-        LinkCount::Refused(number, place) => write_refusal(number, place),
+        LinkCount::Counted(links) => write_figure(rt, b"links ", links)?,
+        LinkCount::Refused(number, place) => write_refusal(rt, number, place)?,
     }
-    end_line();
+    end_line(rt)
 }
 
 // What asking for thread `i` of any words gives, on the line that `name` begins.
-pub fn thread(name: &[u8], report: &[u32], i: usize) {
-    write_figure(b"thread ", i);
-    write_start(b" of ", name);
-    write_thread(report, i);
-    end_line();
+pub fn thread(rt: &impl Print, name: &[u8], report: &[u32], i: usize) -> io::Result<()> {
+    write_figure(rt, b"thread ", i)?;
+    write_start(rt, b" of ", name)?;
+    write_thread(rt, report, i)?;
+    end_line(rt)
 }
 
 // The outcome of a fair copy call; a copy is given as a report is.
@@ -217,67 +220,98 @@ fn ask(service: Service, log: &[u32], out: &mut [u32], work: &mut [u32]) -> Outc
 }
 
 // The words of a report or of a copy, and how many words of the buffers are not as they should be; of a report, each thread too.
-fn write_answer(service: Service, out: &[u32; 64], count: usize, scratch: &[u32; 16400]) {
-    write(b"words");
-    write_output(out, count);
-    expect_cleared(scratch);
+fn write_answer(
+    rt: &impl Print,
+    service: Service,
+    out: &[u32; 64],
+    count: usize,
+    scratch: &[u32; 16400],
+) -> io::Result<()> {
+    write(rt, b"words")?;
+    write_output(rt, out, count)?;
+    expect_cleared(rt, scratch)?;
     if let Service::Report = service {
-        write_all_threads(out, count);
+        write_all_threads(rt, out, count)?;
     }
+    Ok(())
 }
 
 // A loop of `length` episodes, and how many words of the buffers are not as they should be.
-fn write_loop(out: &[u32; 64], length: usize, scratch: &[u32; 16400]) {
-    write_refusal(13, length);
+fn write_loop(
+    rt: &impl Print,
+    out: &[u32; 64],
+    length: usize,
+    scratch: &[u32; 16400],
+) -> io::Result<()> {
+    write_refusal(rt, 13, length)?;
     if length < out.len() {
-        write(b", words");
-        write_output(out, length + 1);
+        write(rt, b", words")?;
+        write_output(rt, out, length + 1)?;
     }
-    expect_cleared(scratch);
+    expect_cleared(rt, scratch)
 }
 
 // A refusal, and how many words of the buffers are not as they were.
-fn write_refused(number: u32, place: usize, out: &[u32; 64], scratch: &[u32; 16400]) {
-    write_refusal(number, place);
-    expect_kept(out, scratch);
+fn write_refused(
+    rt: &impl Print,
+    number: u32,
+    place: usize,
+    out: &[u32; 64],
+    scratch: &[u32; 16400],
+) -> io::Result<()> {
+    write_refusal(rt, number, place)?;
+    expect_kept(rt, out, scratch)
 }
 
 // The outcome of a call, what it wrote, and how many words of the buffers are not as they should be.
-fn write_outcome(service: Service, outcome: Outcome, out: &[u32; 64], scratch: &[u32; 16400]) {
+fn write_outcome(
+    rt: &impl Print,
+    service: Service,
+    outcome: Outcome,
+    out: &[u32; 64],
+    scratch: &[u32; 16400],
+) -> io::Result<()> {
     match outcome {
-        Outcome::Report(count) => write_answer(service, out, count, scratch),
-        Outcome::Loop(length) => write_loop(out, length, scratch),
-        Outcome::Refused(number, place) => write_refused(number, place, out, scratch),
+        Outcome::Report(count) => write_answer(rt, service, out, count, scratch),
+        Outcome::Loop(length) => write_loop(rt, out, length, scratch),
+        Outcome::Refused(number, place) => write_refused(rt, number, place, out, scratch),
     }
 }
 
 // The start of the line of a call.
-fn write_call(service: Service, name: &[u8]) {
+fn write_call(rt: &impl Print, service: Service, name: &[u8]) -> io::Result<()> {
     match service {
-        Service::Report => write_start(b"report on ", name),
-        Service::FairCopy => write_start(b"copy of ", name),
-        Service::TrimmedCopy => write_start(b"trim of ", name),
+        Service::Report => write_start(rt, b"report on ", name),
+        Service::FairCopy => write_start(rt, b"copy of ", name),
+        Service::TrimmedCopy => write_start(rt, b"trim of ", name),
     }
 }
 
 // What a call answers and leaves, with `lent` of 64 output words and `work` of 16,400 work words. Before it all hold the mark.
-pub fn call(service: Service, name: &[u8], log: &[u32], lent: usize, work: usize)
+pub fn call(
+    rt: &impl Print,
+    service: Service,
+    name: &[u8],
+    log: &[u32],
+    lent: usize,
+    work: usize,
+) -> io::Result<()>
     requires { (lent ≤ 64) × (work ≤ 16400) }
 {
-    write_call(service, name);
+    write_call(rt, service, name)?;
     let mut out = [MARK; 64];
     let mut scratch = [MARK; 16400];
     let outcome = ask(service, log, &mut out[0..lent], &mut scratch[0..work]);
-    write_outcome(service, outcome, &out, &scratch);
-    end_line();
+    write_outcome(rt, service, outcome, &out, &scratch)?;
+    end_line(rt)
 }
 
 // An outcome without the words.
-fn write_count(outcome: Outcome) {
+fn write_count(rt: &impl Print, outcome: Outcome) -> io::Result<()> {
     match outcome {
-        Outcome::Report(count) => write_figure(b"count ", count),
-        Outcome::Loop(length) => write_refusal(13, length),
-        Outcome::Refused(number, place) => write_refusal(number, place),
+        Outcome::Report(count) => write_figure(rt, b"count ", count),
+        Outcome::Loop(length) => write_refusal(rt, 13, length),
+        Outcome::Refused(number, place) => write_refusal(rt, number, place),
     }
 }
 
@@ -293,12 +327,12 @@ fn enough(service: Service) -> usize
 }
 
 // The outcome of a call alone, of a log of any size.
-pub fn outcome(service: Service, name: &[u8], log: &[u32]) {
-    write_call(service, name);
+pub fn outcome(rt: &impl Print, service: Service, name: &[u8], log: &[u32]) -> io::Result<()> {
+    write_call(rt, service, name)?;
     let lent = enough(service);
     let mut out = [MARK; 10502];
     let mut work = [MARK; 16384];
     let outcome = ask(service, log, &mut out[0..lent], &mut work);
-    write_count(outcome);
-    end_line();
+    write_count(rt, outcome)?;
+    end_line(rt)
 }
