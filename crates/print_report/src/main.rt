@@ -56,8 +56,8 @@ fn take(rt: &impl Print, bytes: &[u8]) -> io::Result<()> {
 }
 
 fn main(rt: HostRuntime) -> io::Result<()> {
-    // One byte more than the longest log that passes: a full buffer is refused, whatever stands behind it.
-    let mut buffer = [0u8; input::MOST_BYTES + 1];
+    // Longer than the longest log that passes: a full buffer is refused, whatever stands behind it.
+    let mut buffer = [0u8; 65536];
     match stdin::read_all(&mut rt.stdin(), &mut buffer) {
         Ok(count) => take(&rt, &buffer[..count]),
         Err(_) => show::unreadable(&rt),
