@@ -16,25 +16,28 @@ returns-then-found-m c =
 
 pub flip-old-requires-in-loop-old : goal.flip-old-requires-in-loop-old
 flip-old-requires-in-loop-old c =
-    let first_here : (tail : ℕ) × (let h = c.search-found in Going h.new.w h.new.w c.args.base c.args.m tail (h.result + 1)) = let h = c.search-found in going_start c.args.w.now h.new.w c.args.base c.args.m c.args.a h.result c.requires.0 h.ensures (omega (arith, h.ensures.item_le)) in
-    let here_here : (tail : ℕ) × (let a = c.args in Going c.search-found.new.w c.loop-old.w a.base a.m tail c.loop-old.old) = let a = c.args in let h = c.search-found in let k = c.flip-old in let (tail, s) = first_here in (tail, c.loop-old.invariant h.new.w tail (going_more h.new.w h.new.w a.base a.m tail (h.result + 1) h.result s refl k.new.w k.result k.ensures)) in
     let a = c.args in
     let at = c.loop-old in
-    let (tail, s) = here_here in
     let h = c.search-found in
+    let first = c.flip-old in
+    let (tail, begun) = going_start a.w.now h.new.w a.base a.m a.a h.result c.requires.0 h.ensures (omega (arith, h.ensures.item_le)) in
+    let s =
+    at.invariant h.new.w tail
+    (going_more h.new.w h.new.w a.base a.m tail (h.result + 1) h.result begun refl first.new.w first.result first.ensures) in
     flip_asked h.new.w at.w a.base a.m tail at.old (at.old - 1) s (omega arith)
 
 pub loop-old-smaller : goal.loop-old-smaller
 loop-old-smaller c =
-    let first_here : (tail : ℕ) × (let h = c.search-found in Going h.new.w h.new.w c.args.base c.args.m tail (h.result + 1)) = let h = c.search-found in going_start c.args.w.now h.new.w c.args.base c.args.m c.args.a h.result c.requires.0 h.ensures (omega (arith, h.ensures.item_le)) in
-    let here_here : (tail : ℕ) × (let a = c.args in Going c.search-found.new.w c.loop-old.w a.base a.m tail c.loop-old.old) = let a = c.args in let h = c.search-found in let k = c.flip-old in let (tail, s) = first_here in (tail, c.loop-old.invariant h.new.w tail (going_more h.new.w h.new.w a.base a.m tail (h.result + 1) h.result s refl k.new.w k.result k.ensures)) in
     let a = c.args in
     let at = c.loop-old in
-    let k = c.flip-old-in-loop-old in
-    let (tail, s) = here_here in
     let h = c.search-found in
-    going_less h.new.w at.w a.base a.m tail at.old (at.old - 1) s (omega arith) k.new.w k.result
-    k.ensures
+    let first = c.flip-old in
+    let (tail, begun) = going_start a.w.now h.new.w a.base a.m a.a h.result c.requires.0 h.ensures (omega (arith, h.ensures.item_le)) in
+    let s =
+    at.invariant h.new.w tail
+    (going_more h.new.w h.new.w a.base a.m tail (h.result + 1) h.result begun refl first.new.w first.result first.ensures) in
+    let k = c.flip-old-in-loop-old in
+    going_less h.new.w at.w a.base a.m tail at.old (at.old - 1) s (omega arith) k.new.w k.result k.ensures
 
 pub loop-old-preserved : goal.loop-old-preserved
 loop-old-preserved c =
@@ -46,11 +49,13 @@ loop-old-preserved c =
 
 pub returns : goal.returns
 returns c =
-    let first_here : (tail : ℕ) × (let h = c.search-found in Going h.new.w h.new.w c.args.base c.args.m tail (h.result + 1)) = let h = c.search-found in going_start c.args.w.now h.new.w c.args.base c.args.m c.args.a h.result c.requires.0 h.ensures (omega (arith, h.ensures.item_le)) in
-    let here_here : (tail : ℕ) × (let a = c.args in Going c.search-found.new.w c.loop-old.w a.base a.m tail c.loop-old.old) = let a = c.args in let h = c.search-found in let k = c.flip-old in let (tail, s) = first_here in (tail, c.loop-old.invariant h.new.w tail (going_more h.new.w h.new.w a.base a.m tail (h.result + 1) h.result s refl k.new.w k.result k.ensures)) in
-    let h = c.search-found in
+    let a = c.args in
     let at = c.loop-old in
+    let h = c.search-found in
+    let first = c.flip-old in
+    let (tail, begun) = going_start a.w.now h.new.w a.base a.m a.a h.result c.requires.0 h.ensures (omega (arith, h.ensures.item_le)) in
+    let s =
+    at.invariant h.new.w tail
+    (going_more h.new.w h.new.w a.base a.m tail (h.result + 1) h.result begun refl first.new.w first.result first.ensures) in
     let k = c.copy_row-2 in
-    let (tail, g) = here_here in
-    going_end c.args.w.now h.new.w c.args.base c.args.m c.args.a h.result c.requires.0 h.ensures at.w k.new.w tail
-    at.old g (omega arith) k.ensures
+    going_end a.w.now h.new.w a.base a.m a.a h.result c.requires.0 h.ensures at.w k.new.w tail at.old s (omega arith) k.ensures

@@ -5,8 +5,9 @@ use Rattle.chains.proofs.extend_all.Goals as goal
 
 pub extend-requires : goal.extend-requires
 extend-requires c =
-    let here_here : (let a = c.args in Joining a.w.now c.loop-from.w a.base a.m c.loop-from.from) = let n = c.forget in c.loop-from.invariant c.args.w.now c.requires (joining_start c.args.w.now c.args.base c.args.m c.requires n.new.w n.ensures) in
-    (here_here.extendable, omega arith)
+    let a = c.args in
+    let here = c.loop-from.invariant a.w.now c.requires (joining_start a.w.now a.base a.m c.requires c.forget.new.w c.forget.ensures) in
+    (here.extendable, omega arith)
 
 pub loop-from-preserved : goal.loop-from-preserved
 loop-from-preserved c =
@@ -17,6 +18,7 @@ loop-from-preserved c =
 
 pub returns : goal.returns
 returns c =
-    let here_here : (let a = c.args in Joining a.w.now c.loop-from.w a.base a.m c.loop-from.from) = let n = c.forget in c.loop-from.invariant c.args.w.now c.requires (joining_start c.args.w.now c.args.base c.args.m c.requires n.new.w n.ensures) in
+    let a = c.args in
     let at = c.loop-from in
-    joining_end c.args.w.now c.args.base c.args.m c.requires at.w at.from here_here (omega arith)
+    let here = at.invariant a.w.now c.requires (joining_start a.w.now a.base a.m c.requires c.forget.new.w c.forget.ensures) in
+    joining_end a.w.now a.base a.m c.requires at.w at.from here (omega arith)

@@ -23,10 +23,20 @@ lower-requires c =
 
 pub loop-preserved : goal.loop-preserved
 loop-preserved c =
-    let marked_here : GroupTaken (nearest_from c.args.log.now c.args.start / 64) c.args.log.now c.args.start (c.loop.at + 1) c.args.w.now c.lower.new.w = let at = c.loop in let to = c.to_word_of-to.ensures in group_more c.args.log.now c.args.start at.at c.args.w.now at.w c.lower.new.w c.requires.0 c.requires.1 at.invariant.0 at.invariant.1 (rw (c.requires.3, to.0, to.1) at c.lower.ensures) in
-    (marked_here, sym c.to_before_last.ensures ∙ c.if-not-to_before_last.false)
+    let a = c.args in
+    let at = c.loop in
+    let to = c.to_word_of-to.ensures in
+    let marked =
+    group_more a.log.now a.start at.at a.w.now at.w c.lower.new.w c.requires.0 c.requires.1 at.invariant.0 at.invariant.1
+    (rw (c.requires.3, to.0, to.1) at c.lower.ensures) in
+    (marked, sym c.to_before_last.ensures ∙ c.if-not-to_before_last.false)
 
 pub returns : goal.returns
 returns c =
-    let marked_here : GroupTaken (nearest_from c.args.log.now c.args.start / 64) c.args.log.now c.args.start (c.loop.at + 1) c.args.w.now c.lower.new.w = let at = c.loop in let to = c.to_word_of-to.ensures in group_more c.args.log.now c.args.start at.at c.args.w.now at.w c.lower.new.w c.requires.0 c.requires.1 at.invariant.0 at.invariant.1 (rw (c.requires.3, to.0, to.1) at c.lower.ensures) in
-    (marked_here, sym c.to_before_last.ensures ∙ c.if-not-to_before_last.true)
+    let a = c.args in
+    let at = c.loop in
+    let to = c.to_word_of-to.ensures in
+    let marked =
+    group_more a.log.now a.start at.at a.w.now at.w c.lower.new.w c.requires.0 c.requires.1 at.invariant.0 at.invariant.1
+    (rw (c.requires.3, to.0, to.1) at c.lower.ensures) in
+    (marked, sym c.to_before_last.ensures ∙ c.if-not-to_before_last.true)

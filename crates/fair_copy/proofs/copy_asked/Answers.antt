@@ -12,28 +12,28 @@ use Rattle.fair_copy.proofs.copy_asked.Goals as goal
 
 pub overflow_mul-needed : goal.overflow_mul-needed
 overflow_mul-needed c =
-    let passed_here : questions c.args.most c.args.log.now ≡ given (c.in-Passed.n, c.in-Passed.t) = told c.read_within.ensures c.in-Passed.is in
-    let few_here : c.in-Passed.t < 2 ^ 28 = words_small c.args.most c.args.log.now c.in-Passed.n c.in-Passed.t passed_here in
-    omega (arith, few_here)
+    let passed = told c.read_within.ensures c.in-Passed.is in
+    let few = words_small c.args.most c.args.log.now c.in-Passed.n c.in-Passed.t passed in
+    omega (arith, few)
 
 pub overflow_add-needed : goal.overflow_add-needed
 overflow_add-needed c =
-    let passed_here : questions c.args.most c.args.log.now ≡ given (c.in-Passed.n, c.in-Passed.t) = told c.read_within.ensures c.in-Passed.is in
-    let few_here : c.in-Passed.t < 2 ^ 28 = words_small c.args.most c.args.log.now c.in-Passed.n c.in-Passed.t passed_here in
-    omega (arith, few_here)
+    let passed = told c.read_within.ensures c.in-Passed.is in
+    let few = words_small c.args.most c.args.log.now c.in-Passed.n c.in-Passed.t passed in
+    omega (arith, few)
 
 pub returns-then-output-needed : goal.returns-then-output-needed
 returns-then-output-needed c =
-    let passed_here : questions c.args.most c.args.log.now ≡ given (c.in-Passed.n, c.in-Passed.t) = told c.read_within.ensures c.in-Passed.is in
+    let passed = told c.read_within.ensures c.in-Passed.is in
     let a = c.args in
-    sym (asked_short_output a.most (λ j u. fair_need u) a.log.now a.output a.work c.in-Passed.n c.in-Passed.t passed_here (omega arith))
+    sym (asked_short_output a.most (λ j u. fair_need u) a.log.now a.output a.work c.in-Passed.n c.in-Passed.t passed (omega arith))
 
 pub returns-then-work-used : goal.returns-then-work-used
 returns-then-work-used c =
-    let passed_here : questions c.args.most c.args.log.now ≡ given (c.in-Passed.n, c.in-Passed.t) = told c.read_within.ensures c.in-Passed.is in
+    let passed = told c.read_within.ensures c.in-Passed.is in
     let a = c.args in
     sym
-    (asked_short_work a.most (λ j u. fair_need u) a.log.now a.output a.work c.in-Passed.n c.in-Passed.t passed_here (omega arith) (omega arith))
+    (asked_short_work a.most (λ j u. fair_need u) a.log.now a.output a.work c.in-Passed.n c.in-Passed.t passed (omega arith) (omega arith))
 
 pub returns-in-Refused : goal.returns-in-Refused
 returns-in-Refused c =
@@ -44,7 +44,7 @@ returns-in-Refused c =
 
 pub returns-else-work-used : goal.returns-else-work-used
 returns-else-work-used c =
-    let passed_here : questions c.args.most c.args.log.now ≡ given (c.in-Passed.n, c.in-Passed.t) = told c.read_within.ensures c.in-Passed.is in
+    let passed = told c.read_within.ensures c.in-Passed.is in
     let a = c.args in
     sym
-    (asked_passes a.most (λ j u. fair_need u) a.log.now a.output a.work c.in-Passed.n c.in-Passed.t passed_here (omega arith) (omega arith))
+    (asked_passes a.most (λ j u. fair_need u) a.log.now a.output a.work c.in-Passed.n c.in-Passed.t passed (omega arith) (omega arith))

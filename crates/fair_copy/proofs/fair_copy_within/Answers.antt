@@ -19,15 +19,19 @@ use Rattle.fair_copy.proofs.fair_copy_within.Goals as goal
 
 pub slice_bounds-copy-end : goal.slice_bounds-copy-end
 slice_bounds-copy-end c =
-    let asked_here : copy_asked c.args.most c.args.log.now (length c.args.out.now) (length c.args.work.now) ≡ given (c.in-Passed.n, c.in-Passed.field-1) = told c.copy_asked.ensures c.in-Passed.is in
-    let passed_here : (questions c.args.most c.args.log.now ≡ given (c.in-Passed.n, c.in-Passed.field-1)) × (fair_need c.in-Passed.field-1 ≤ length c.args.out.now) × (work_words ≤ length c.args.work.now) = asked_given c.args.most (λ j u. fair_need u) c.args.log.now (length c.args.out.now) (length c.args.work.now) c.in-Passed.n c.in-Passed.field-1 asked_here in
-    omega (arith, passed_here.2)
+    let asked = told c.copy_asked.ensures c.in-Passed.is in
+    let passed =
+    asked_given c.args.most (λ j u. fair_need u) c.args.log.now (length c.args.out.now) (length c.args.work.now)
+    c.in-Passed.n c.in-Passed.field-1 asked in
+    omega (arith, passed.2)
 
 pub copy-requires : goal.copy-requires
 copy-requires c =
-    let asked_here : copy_asked c.args.most c.args.log.now (length c.args.out.now) (length c.args.work.now) ≡ given (c.in-Passed.n, c.in-Passed.field-1) = told c.copy_asked.ensures c.in-Passed.is in
-    let passed_here : (questions c.args.most c.args.log.now ≡ given (c.in-Passed.n, c.in-Passed.field-1)) × (fair_need c.in-Passed.field-1 ≤ length c.args.out.now) × (work_words ≤ length c.args.work.now) = asked_given c.args.most (λ j u. fair_need u) c.args.log.now (length c.args.out.now) (length c.args.work.now) c.in-Passed.n c.in-Passed.field-1 asked_here in
-    let (read, output, work) = passed_here in
+    let asked = told c.copy_asked.ensures c.in-Passed.is in
+    let passed =
+    asked_given c.args.most (λ j u. fair_need u) c.args.log.now (length c.args.out.now) (length c.args.work.now)
+    c.in-Passed.n c.in-Passed.field-1 asked in
+    let (read, output, work) = passed in
     let few = few_episodes c.args.most c.args.log.now c.in-Passed.n c.in-Passed.field-1 read in
     let fits = copy_fits c.args.most c.args.log.now c.in-Passed.n c.in-Passed.field-1 read in (
       (c.args.most, c.in-Passed.n, c.in-Passed.field-1, read, omega (arith, c.requires)),
@@ -44,9 +48,11 @@ returns-in-Refused c =
 
 pub returns-in-Passed : goal.returns-in-Passed
 returns-in-Passed c =
-    let asked_here : copy_asked c.args.most c.args.log.now (length c.args.out.now) (length c.args.work.now) ≡ given (c.in-Passed.n, c.in-Passed.field-1) = told c.copy_asked.ensures c.in-Passed.is in
-    let passed_here : (questions c.args.most c.args.log.now ≡ given (c.in-Passed.n, c.in-Passed.field-1)) × (fair_need c.in-Passed.field-1 ≤ length c.args.out.now) × (work_words ≤ length c.args.work.now) = asked_given c.args.most (λ j u. fair_need u) c.args.log.now (length c.args.out.now) (length c.args.work.now) c.in-Passed.n c.in-Passed.field-1 asked_here in
+    let asked = told c.copy_asked.ensures c.in-Passed.is in
+    let passed =
+    asked_given c.args.most (λ j u. fair_need u) c.args.log.now (length c.args.out.now) (length c.args.work.now)
+    c.in-Passed.n c.in-Passed.field-1 asked in
     let done = c.copy in
     let a = c.args in
-    copy_left a.most a.log.now a.out.now a.work.now c.in-Passed.n c.in-Passed.field-1 asked_here done.new.out done.ensures.0 done.ensures.1
-    (work_cleared a.work.now done.new.work passed_here.2 done.ensures.2)
+    copy_left a.most a.log.now a.out.now a.work.now c.in-Passed.n c.in-Passed.field-1 asked done.new.out done.ensures.0 done.ensures.1
+    (work_cleared a.work.now done.new.work passed.2 done.ensures.2)

@@ -14,15 +14,6 @@ show_loop-length-requires c =
     let (g, ready) = c.requires.0 in
     (g, ready, loop_room ready c.requires.1)
 
-pub returns-then-length-ne0 : goal.returns-then-length-ne0
-returns-then-length-ne0 c = λ g ready. (c.show_loop-length.ensures g ready).shown (λ e. omega arith)
-
-pub join-requires : goal.join-requires
-join-requires c =
-    let (g, before) = c.requires.0 in
-    let ready = still_ready (c.show_loop-length.ensures g before) (omega arith) before in
-    (record { long = ready.long; matrix = omega arith; items = ready.few }, λ i lo hi. ready.empty i lo (omega arith))
-
 pub write_report-requires : goal.write_report-requires
 write_report-requires c =
     let (g, before) = c.requires.0 in

@@ -7,14 +7,8 @@ use Rattle.bits.proofs.Frames.{Cleared, part_cleared}
 use Rattle.report.proofs.Calls.{ready}
 use Rattle.report.proofs.prepare.Goals as goal
 
-pub reachability-requires : goal.reachability-requires
-reachability-requires c =
-    let zeroed_here : Cleared 0 used_words c.args.w.now (c.clear.new.w ++ drop used_words c.args.w.now) = part_cleared c.args.w.now c.clear.new.w 0 used_words used_words (omega arith) (omega (arith, c.requires)) c.clear.ensures in
-    let zero = zeroed_here in
-    (c.requires.0, c.requires.1, omega arith, rw zero.outside.same_length (omega arith), λ i h. zero.zeros i (omega arith) (omega arith))
-
 pub returns : goal.returns
 returns c =
-    let zeroed_here : Cleared 0 used_words c.args.w.now (c.clear.new.w ++ drop used_words c.args.w.now) = part_cleared c.args.w.now c.clear.new.w 0 used_words used_words (omega arith) (omega (arith, c.requires)) c.clear.ensures in
-    ready c.args.log.now c.args.n c.requires.0 c.requires.1 c.requires.2 (omega (arith, c.requires)) zeroed_here
+    let zeroed = part_cleared c.args.w.now c.clear.new.w 0 used_words used_words (omega arith) (omega (arith, c.requires)) c.clear.ensures in
+    ready c.args.log.now c.args.n c.requires.0 c.requires.1 c.requires.2 (omega (arith, c.requires)) zeroed
     c.reachability.ensures

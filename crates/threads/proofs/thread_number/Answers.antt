@@ -4,12 +4,6 @@ use native.Mathlib.Omega.{arith}
 use Rattle.threads.proofs.ThreadCalls.{no_report, no_thread, a_thread}
 use Rattle.threads.proofs.thread_number.Goals as goal
 
-pub returns-then-not-whole : goal.returns-then-not-whole
-returns-then-not-whole c =
-    let a = c.args in
-    let test = c.is_whole-whole in
-    no_report a.report.now a.i (test.ensures.not_whole c.if-not-whole.true)
-
 pub returns-then-k-i : goal.returns-then-k-i
 returns-then-k-i c =
     let a = c.args in

@@ -11,19 +11,11 @@ returns-then-thread_number-ne0 c =
     let a = c.args in
     no_stretch a.report.now a.i (λ has. omega (arith, c.thread_number.ensures.given.1 has))
 
--- behind the test the words are a whole report with a thread `i`
-found : (at : goal.Else-thread_number-ne0) → HasThread at.args.report.now at.args.i
-found at = at.thread_number.ensures.given.0 (omega arith)
-
-pub thread_at-at-requires : goal.thread_at-at-requires
-thread_at-at-requires c = found c
-
 -- that thread has a step, and there is room for it where it stands
 room : (at : goal.After-thread_at-at) → Room at.args.report.now at.thread_at-at.result
 room at =
-    let found_here : HasThread at.args.report.now at.args.i = at.thread_number.ensures.given.0 (omega arith) in
     let a = at.args in
-    let has = found_here in
+    let has = at.thread_number.ensures.given.0 (omega arith) in
     thread_room a.report.now has.0 has.1 has.2 a.i at.thread_at-at.result has.3 at.thread_at-at.ensures
 
 pub overflow_add-start : goal.overflow_add-start
@@ -34,18 +26,18 @@ offset_bounds-report-at c = omega (arith, (room c).1)
 
 pub bounds-report-at : goal.bounds-report-at
 bounds-report-at c =
-    let found_here : HasThread c.args.report.now c.args.i = c.thread_number.ensures.given.0 (omega arith) in
-    let room_here : Room c.args.report.now c.thread_at-at.result = let a = c.args in let has = found_here in thread_room a.report.now has.0 has.1 has.2 a.i c.thread_at-at.result has.3 c.thread_at-at.ensures in
-    omega (arith, room_here.1)
+    let a = c.args in
+    let has = c.thread_number.ensures.given.0 (omega arith) in
+    omega (arith, (thread_room a.report.now has.0 has.1 has.2 a.i c.thread_at-at.result has.3 c.thread_at-at.ensures).1)
 
 pub overflow_add-end : goal.overflow_add-end
 overflow_add-end c =
-    let found_here : HasThread c.args.report.now c.args.i = c.thread_number.ensures.given.0 (omega arith) in
-    let room_here : Room c.args.report.now c.thread_at-at.result = let a = c.args in let has = found_here in thread_room a.report.now has.0 has.1 has.2 a.i c.thread_at-at.result has.3 c.thread_at-at.ensures in
-    omega (arith, room_here.1)
+    let a = c.args in
+    let has = c.thread_number.ensures.given.0 (omega arith) in
+    omega (arith, (thread_room a.report.now has.0 has.1 has.2 a.i c.thread_at-at.result has.3 c.thread_at-at.ensures).1)
 
 pub returns : goal.returns
 returns c =
-    let found_here : HasThread c.args.report.now c.args.i = c.thread_number.ensures.given.0 (omega arith) in
+    let found = c.thread_number.ensures.given.0 (omega arith) in
     let a = c.args in
-    its_stretch a.report.now a.i found_here c.thread_at-at.result _ _ c.thread_at-at.ensures (omega arith) (omega arith)
+    its_stretch a.report.now a.i found c.thread_at-at.result _ _ c.thread_at-at.ensures (omega arith) (omega arith)

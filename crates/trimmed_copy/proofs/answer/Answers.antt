@@ -11,20 +11,6 @@ use Rattle.report.proofs.Answers.{still_ready}
 use Rattle.trimmed_copy.proofs.TrimCalls.{held}
 use Rattle.trimmed_copy.proofs.answer.Goals as goal
 
-pub show_loop-length-requires : goal.show_loop-length-requires
-show_loop-length-requires c =
-    let (g, ready, room) = c.requires in
-    (g, ready, room.loop)
-
-pub returns-then-length-ne0 : goal.returns-then-length-ne0
-returns-then-length-ne0 c = λ g ready room. (c.show_loop-length.ensures g ready).shown (λ e. omega arith)
-
-pub write_trimmed-requires : goal.write_trimmed-requires
-write_trimmed-requires c =
-    let (g, ready, room) = c.requires in
-    let sought = c.show_loop-length.ensures g ready in
-    (g, held (still_ready sought (omega arith) ready) room, omega (arith, ap length (sought.none (omega arith)).1, room.copy))
-
 pub returns : goal.returns
 returns c =
     λ g ready room.

@@ -11,8 +11,5 @@ loop-i-init c = noting_start c.args.w.now c.args.implied.now c.args.row c.requir
 pub loop-i-preserved : goal.loop-i-preserved
 loop-i-preserved c = noting_on c.requires.1 (omega arith) c.loop-i.invariant c.join_ways.ensures
 
-pub shape_of-implied : goal.shape_of-implied
-shape_of-implied c = omega (arith, c.loop-i.invariant.size, ap length c.requires.2)
-
 pub returns : goal.returns
 returns c = noting_end (omega arith) c.loop-i.invariant

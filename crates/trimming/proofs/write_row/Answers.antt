@@ -17,44 +17,35 @@ loop-i-init c =
 pub write_word-links-requires : goal.write_word-links-requires
 write_word-links-requires c =
     let a = c.args in
-    ((kept_at a.w.now a.a a.implied.now, a.out.now, word_tells a.w.now a.a a.row a.implied.now c.loop-i.i c.requires.2, c.loop-i.invariant.1, (group_holds a.a (no_pause a.a) (kept_to a.w.now a.a a.implied.now) (length a.out.now) c.requires.4)), omega arith)
+    let tells = word_tells a.w.now a.a a.row a.implied.now c.loop-i.i c.requires.2 in
+    let room = group_holds a.a (no_pause a.a) (kept_to a.w.now a.a a.implied.now) (length a.out.now) c.requires.4 in
+    ((kept_at a.w.now a.a a.implied.now, a.out.now, tells, c.loop-i.invariant.1, room), omega arith)
 
 pub loop-i-preserved : goal.loop-i-preserved
 loop-i-preserved c =
     let a = c.args in
     let test = kept_at a.w.now a.a a.implied.now in
+    let tells = word_tells a.w.now a.a a.row a.implied.now c.loop-i.i c.requires.2 in
+    let room = group_holds a.a (no_pause a.a) (kept_to a.w.now a.a a.implied.now) (length a.out.now) c.requires.4 in
     let next : 32 * c.loop-i.i + 32 ≡ 32 * (c.loop-i.i + 1) = omega arith in
     let written = c.write_word-links in (
       omega arith,
       subst (λ (v : ℕ). Listing test to_unpaused a.out.now written.new.out 256 written.result v) next
-          (written.ensures test a.out.now (word_tells a.w.now a.a a.row a.implied.now c.loop-i.i c.requires.2) c.loop-i.invariant.1 (group_holds a.a (no_pause a.a) (kept_to a.w.now a.a a.implied.now) (length a.out.now) c.requires.4)),
+          (written.ensures test a.out.now tells c.loop-i.invariant.1 room),
     )
-
-pub bounds-out-0 : goal.bounds-out-0
-bounds-out-0 c =
-    let same_out_here : length c.loop-i.out ≡ length c.args.out.now = c.loop-i.invariant.1.same_length in
-    omega (arith, same_out_here, c.requires.4)
-
-pub shape_of-out-then-links-ne0 : goal.shape_of-out-then-links-ne0
-shape_of-out-then-links-ne0 c =
-    let same_out_here : length c.loop-i.out ≡ length c.args.out.now = c.loop-i.invariant.1.same_length in
-    simp length-set same_out_here
 
 pub returns-then-links-ne0 : goal.returns-then-links-ne0
 returns-then-links-ne0 c =
-    let whole_here : 8 ≤ c.loop-i.i → Listing (kept_at c.args.w.now c.args.a c.args.implied.now) to_unpaused c.args.out.now c.loop-i.out 256 c.loop-i.links 256 = λ h. let a = c.args in let all : 32 * c.loop-i.i ≡ 256 = omega (arith, c.loop-i.invariant.0) in subst (λ (v : ℕ). Listing (kept_at a.w.now a.a a.implied.now) to_unpaused a.out.now c.loop-i.out 256 c.loop-i.links v) all c.loop-i.invariant.1 in
     let a = c.args in
-    group_links_lem (kept_at a.w.now a.a a.implied.now) (no_pause a.a) a.out.now c.loop-i.out 256 c.loop-i.links 256 (whole_here (omega arith))
+    let all : 32 * c.loop-i.i ≡ 256 = omega (arith, c.loop-i.invariant.0) in
+    let whole = subst (λ (v : ℕ). Listing (kept_at a.w.now a.a a.implied.now) to_unpaused a.out.now c.loop-i.out 256 c.loop-i.links v) all c.loop-i.invariant.1 in
+    group_links_lem (kept_at a.w.now a.a a.implied.now) (no_pause a.a) a.out.now c.loop-i.out 256 c.loop-i.links 256 whole
     (omega arith) a.a (λ e. omega arith)
-
-pub shape_of-out-else-links-ne0 : goal.shape_of-out-else-links-ne0
-shape_of-out-else-links-ne0 c =
-    let same_out_here : length c.loop-i.out ≡ length c.args.out.now = c.loop-i.invariant.1.same_length in
-    same_out_here
 
 pub returns-else-links-ne0 : goal.returns-else-links-ne0
 returns-else-links-ne0 c =
-    let whole_here : 8 ≤ c.loop-i.i → Listing (kept_at c.args.w.now c.args.a c.args.implied.now) to_unpaused c.args.out.now c.loop-i.out 256 c.loop-i.links 256 = λ h. let a = c.args in let all : 32 * c.loop-i.i ≡ 256 = omega (arith, c.loop-i.invariant.0) in subst (λ (v : ℕ). Listing (kept_at a.w.now a.a a.implied.now) to_unpaused a.out.now c.loop-i.out 256 c.loop-i.links v) all c.loop-i.invariant.1 in
     let a = c.args in
-    group_no_links (kept_at a.w.now a.a a.implied.now) (no_pause a.a) a.out.now c.loop-i.out 256 c.loop-i.links 256 (whole_here (omega arith))
+    let all : 32 * c.loop-i.i ≡ 256 = omega (arith, c.loop-i.invariant.0) in
+    let whole = subst (λ (v : ℕ). Listing (kept_at a.w.now a.a a.implied.now) to_unpaused a.out.now c.loop-i.out 256 c.loop-i.links v) all c.loop-i.invariant.1 in
+    group_no_links (kept_at a.w.now a.a a.implied.now) (no_pause a.a) a.out.now c.loop-i.out 256 c.loop-i.links 256 whole
     (omega arith) a.a (omega arith) (omega (arith, c.requires.4))

@@ -28,18 +28,6 @@ few_links g n a held written =
     let most = length_passing (λ b. linked a b (trimmed g).links) n in
     omega (arith, written.count, held.few)
 
-pub offset_bounds-out-words : goal.offset_bounds-out-words
-offset_bounds-out-words c =
-    let (g, held, fits) = c.requires in
-    let here = c.loop-a.invariant g held fits in
-    omega (arith, copying_at here fits, copying_length here fits)
-
-pub slice_bounds-trim_row-count : goal.slice_bounds-trim_row-count
-slice_bounds-trim_row-count c = let (g, held, fits) = c.requires in copying_at (c.loop-a.invariant g held fits) fits
-
-pub slice_bounds-trim_row-start : goal.slice_bounds-trim_row-start
-slice_bounds-trim_row-start c = let (g, held, fits) = c.requires in copying_at (c.loop-a.invariant g held fits) fits
-
 pub trim_row-more-requires : goal.trim_row-more-requires
 trim_row-more-requires c =
     let (g, held, fits) = c.requires in
@@ -68,9 +56,6 @@ pub loop-a-preserved : goal.loop-a-preserved
 loop-a-preserved c =
     λ g held fits.
     copying_on (c.loop-a.invariant g held fits) fits _ (count g held) (omega arith) (c.trim_row-more.ensures g held) refl c.group_words-words.ensures
-
-pub shape_of-out : goal.shape_of-out
-shape_of-out c = let (g, held, fits) = c.requires in copying_length (c.loop-a.invariant g held fits) fits
 
 pub returns : goal.returns
 returns c = λ g held fits. copying_all (c.loop-a.invariant g held fits) fits _ (count g held) (omega arith)

@@ -21,13 +21,6 @@ write_ends-requires c =
       end_room no_pause (trimmed g) c.args.out.now groups.new.out groups.result.words groups.result.links fits written,
     )
 
-pub overflow_add-result : goal.overflow_add-result
-overflow_add-result c =
-    let (g, held, fits) = c.requires in
-    let groups = c.write_rows-groups in
-    omega
-    (arith, end_room no_pause (trimmed g) c.args.out.now groups.new.out groups.result.words groups.result.links fits (groups.ensures g held fits))
-
 pub returns : goal.returns
 returns c =
     λ g held fits.

@@ -18,8 +18,8 @@ returns-then-at-b c =
 
 pub loop-at-smaller : goal.loop-at-smaller
 loop-at-smaller c =
-    let less_here : c.loop-at.count < c.args.n = stepping_less c.loop-at.invariant.0 c.hop-at.ensures c.requires.0.1 in
-    omega (arith, less_here)
+    let less = stepping_less c.loop-at.invariant.0 c.hop-at.ensures c.requires.0.1 in
+    omega (arith, less)
 
 pub loop-at-preserved : goal.loop-at-preserved
 loop-at-preserved c =

@@ -25,33 +25,33 @@ bounds-out-1 c = start_room c
 
 pub loop-next-init : goal.loop-next-init
 loop-next-init c =
-    let start_below_here : c.chain_start-at.result < c.args.n = c.chain_start-at.ensures.below c.args.n c.requires.0.1.matching c.requires.1 in
+    let start_below_here = c.chain_start-at.ensures.below c.args.n c.requires.0.1.matching c.requires.1 in
     let start_room_here : 1 < length c.args.out.now = let p = c.requires.0 in starts_room c.args.out.now start_below_here p.1 p.2 in
     (filling_starts c.args.out.now start_below_here c.chain_start-at.ensures start_room_here, refl)
 
 pub write_path-count-requires : goal.write_path-count-requires
 write_path-count-requires c =
-    let next_target_here : (tables c.args.w.now).next c.loop-next.at ≡ c.loop-next.next - 1 + 1 = omega (arith, c.loop-next.invariant.1) in
-    let target_way_here : (c.loop-next.next - 1 < c.args.n) × (bit c.args.w.now (ways_at + 8 * c.loop-next.at) (c.loop-next.next - 1) ≡ 1) = next_way c.loop-next.invariant.0 next_target_here c.requires.0.1 in
+    let next_target : (tables c.args.w.now).next c.loop-next.at ≡ c.loop-next.next - 1 + 1 = omega (arith, c.loop-next.invariant.1) in
+    let target_way = next_way c.loop-next.invariant.0 next_target c.requires.0.1 in
     let p = c.requires.0 in
     let f = c.loop-next.invariant.0 in
     let len = length-set c.args.out.now 1 (word 7 c.chain_start-at.result) in (
       (p.0, p.1, filling_room f p.1 (λ th t. let h = p.2 th t in omega arith)),
       f.at_below,
-      target_way_here.0,
-      target_way_here.1,
+      target_way.0,
+      target_way.1,
     )
 
 pub loop-next-smaller : goal.loop-next-smaller
 loop-next-smaller c =
-    let next_target_here : (tables c.args.w.now).next c.loop-next.at ≡ c.loop-next.next - 1 + 1 = omega (arith, c.loop-next.invariant.1) in
-    let longer_here : (0 < c.write_path-count.result) × (c.loop-next.count + c.write_path-count.result ≤ c.args.n + 1) = filling_less c.loop-next.invariant.0 next_target_here c.requires.0.1 c.write_path-count.ensures in
-    let (more, le) = longer_here in omega arith
+    let next_target : (tables c.args.w.now).next c.loop-next.at ≡ c.loop-next.next - 1 + 1 = omega (arith, c.loop-next.invariant.1) in
+    let longer = filling_less c.loop-next.invariant.0 next_target c.requires.0.1 c.write_path-count.ensures in
+    let (more, le) = longer in omega arith
 
 pub loop-next-preserved : goal.loop-next-preserved
 loop-next-preserved c =
-    let next_target_here : (tables c.args.w.now).next c.loop-next.at ≡ c.loop-next.next - 1 + 1 = omega (arith, c.loop-next.invariant.1) in
-    (filling_more c.loop-next.invariant.0 next_target_here c.requires.0.1 c.write_path-count.ensures, refl)
+    let next_target : (tables c.args.w.now).next c.loop-next.at ≡ c.loop-next.next - 1 + 1 = omega (arith, c.loop-next.invariant.1) in
+    (filling_more c.loop-next.invariant.0 next_target c.requires.0.1 c.write_path-count.ensures, refl)
 
 -- at the end the words are few
 last_small : (c : goal.After-loop-next) → c.loop-next.count ≤ 256
