@@ -1,7 +1,7 @@
 -- What is dead: what searches have seen in vain, and through which no later search succeeds. At first that is nothing; a search in vain adds
 -- what it has seen, a chain fewer changes nothing of it, and after the last item it is what an exhausted search shows.
 use mathlib.Core.Path.{◌≡◌, sym, subst, ◌∙◌}
-use mathlib.Core.Logic.{◌⊎◌, inl, inr, ⊎_elim, ◌≢◌}
+use mathlib.Core.Logic.{inl, inr, ⊎_elim, ◌≢◌}
 use Prim.Native.Nat.{ℕ, zero, suc, ◌+◌, ◌≤◌, ◌<◌}
 use native.Mathlib.Decide.{ℕ_discrete}
 use native.Mathlib.Omega.{arith}

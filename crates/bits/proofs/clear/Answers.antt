@@ -1,6 +1,6 @@
 use mathlib.Core.Path.{refl, ap, ◌∙◌}
 use mathlib.Core.List.{List}
-use Prim.Native.Nat.{ℕ, ◌-◌}
+use Prim.Native.Nat.{ℕ}
 use borrow.Author.Fill.{fill_none, fill_more}
 use native.Mathlib.Omega.{arith}
 use lib.ListN.{set, length-set}

@@ -1,4 +1,3 @@
-use Prim.Native.Nat.{◌-◌}
 use native.Mathlib.Omega.{arith}
 use Rattle.bits.proofs.Rows.{copying_none, copying_more, row_copied}
 use Rattle.bits.proofs.copy_row.Goals as goal

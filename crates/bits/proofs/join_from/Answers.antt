@@ -1,4 +1,3 @@
-use Prim.Native.Nat.{◌-◌}
 use native.Mathlib.Omega.{arith}
 use Rattle.bits.proofs.Rows.{joining_none, gaining_more, row_gained}
 use Rattle.bits.proofs.join_from.Goals as goal

@@ -1,4 +1,3 @@
-use Prim.Native.Nat.{◌-◌}
 use native.Mathlib.Omega.{arith}
 use Rattle.bits.proofs.Rows.{joining_none, adding_more, row_added}
 use Rattle.bits.proofs.join_into.Goals as goal

@@ -1,4 +1,3 @@
-use Prim.Native.Nat.{◌-◌}
 use native.Mathlib.Omega.{arith}
 use Rattle.bits.proofs.Rows.{joining_none, joining_more, row_joined}
 use Rattle.bits.proofs.join_row.Goals as goal

@@ -1,4 +1,4 @@
-use Prim.Native.Nat.{◌+◌, ◌-◌, ◌/◌}
+use Prim.Native.Nat.{◌+◌, ◌/◌}
 use native.Mathlib.Omega.{arith}
 use lib.Count.{count_trailing_zeros, trailing_le}
 use Rattle.bits.proofs.Rows.{new_in, first_new, none_then_first, none_then_none, none_at_all}

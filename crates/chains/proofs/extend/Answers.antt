@@ -1,7 +1,7 @@
 use mathlib.Core.Path.{refl}
-use Prim.Native.Nat.{ℕ, ◌+◌, ◌-◌}
+use Prim.Native.Nat.{◌+◌, ◌-◌}
 use native.Mathlib.Omega.{arith}
-use Rattle.chains.proofs.Extending.{Going, flip_asked, going_more, going_less, not_end, going_start, going_end, in_vain}
+use Rattle.chains.proofs.Extending.{flip_asked, going_more, going_less, not_end, going_start, going_end, in_vain}
 use Rattle.chains.proofs.extend.Goals as goal
 
 pub returns-then-w-a-ne0 : goal.returns-then-w-a-ne0

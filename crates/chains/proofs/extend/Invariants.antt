@@ -1,7 +1,7 @@
 -- `chains::extend` meets its contract. The loop's invariant: whatever words the search left, the way back over them goes on, `Going`. The
 -- measure is the place from which the next item was seen. Assumes nothing.
 use mathlib.Core.List.{List}
-use Prim.Native.Nat.{ℕ, ◌-◌}
+use Prim.Native.Nat.{ℕ}
 use Rattle.chains.proofs.Extending.{left, Going}
 use Rattle.chains.proofs.extend.Given as goal
 

@@ -1,6 +1,5 @@
-use Prim.Native.Nat.{◌-◌}
 use native.Mathlib.Omega.{arith}
-use Rattle.chains.proofs.Joining.{Joining, joining_start, joining_more, joining_end}
+use Rattle.chains.proofs.Joining.{joining_start, joining_more, joining_end}
 use Rattle.chains.proofs.extend_all.Goals as goal
 
 pub extend-requires : goal.extend-requires

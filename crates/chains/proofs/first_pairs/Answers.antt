@@ -1,4 +1,4 @@
-use Prim.Native.Nat.{◌+◌, ◌-◌}
+use Prim.Native.Nat.{◌+◌}
 use native.Mathlib.Omega.{arith}
 use Rattle.searching.specs.State.{Sized}
 use Rattle.chains.proofs.Pairs.{pairs_start, pair_asked, paired_from, pairs_done}

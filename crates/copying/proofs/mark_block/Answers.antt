@@ -1,5 +1,4 @@
 use mathlib.Core.Path.{◌∙◌, sym}
-use Prim.Native.Nat.{◌-◌}
 use native.Mathlib.Omega.{arith}
 use Rattle.logs.proofs.Walk.{first_here, to_follows, from_passed}
 use Rattle.copying.proofs.Rows.{marking_start, marking_on, marking_end}

@@ -1,12 +1,8 @@
 use mathlib.Core.Path.{◌∙◌, sym}
-use mathlib.Core.Bool.{true}
-use Prim.Native.Nat.{◌+◌, ◌-◌, ◌/◌, ◌<◌}
+use Prim.Native.Nat.{◌<◌}
 use native.Mathlib.Omega.{arith}
-use Rattle.logs.specs.Log.{to_before_last}
-use Rattle.logs.specs.Groups.{nearest_from}
 use Rattle.logs.proofs.Walk.{to_fits}
-use Rattle.copying.specs.Copying.{GroupTaken}
-use Rattle.copying.proofs.Rows.{group_first, group_more}
+use Rattle.copying.proofs.Rows.{group_more}
 use Rattle.copying.proofs.mark_group.Goals as goal
 
 -- the word at `at` gives an episode

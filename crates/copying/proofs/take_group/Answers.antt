@@ -1,14 +1,10 @@
 -- `copying::take_group` meets its contract: to words from another block are passed over.
 -- Assumes nothing.
-use mathlib.Core.Path.{◌≡◌, ◌∙◌, sym, ap}
+use mathlib.Core.Path.{◌∙◌, ap}
 use mathlib.Core.Logic.{◌≢◌}
-use Prim.Native.Nat.{ℕ, ◌+◌, ◌/◌, ◌<◌}
-use native.Mathlib.Omega.{arith}
-use lib.ListN.{length}
-use Rattle.logs.proofs.Asked.{to_there}
+use Prim.Native.Nat.{ℕ, ◌/◌}
 use Rattle.logs.specs.Groups.{nearest_from}
 use Rattle.logs.proofs.Walk.{words_before}
-use Rattle.copying.specs.Copying.{row_at}
 use Rattle.copying.proofs.Rows.{group_passed}
 use Rattle.copying.proofs.take_group.Goals as goal
 

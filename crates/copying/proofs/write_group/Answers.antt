@@ -1,6 +1,6 @@
-use Prim.Native.Nat.{◌+◌, ◌-◌, ◌≤◌, ◌<◌, ◌^◌}
+use Prim.Native.Nat.{◌+◌, ◌<◌}
 use native.Mathlib.Omega.{arith}
-use lib.ListN.{length, get_or, length-set}
+use lib.ListN.{length}
 use Rattle.logs.specs.Words.{to_word}
 use Rattle.logs.proofs.Words.{to_sum}
 use Rattle.writing.proofs.Listing.{listing_none, listing_more, listing_same}

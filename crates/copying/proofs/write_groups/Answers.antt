@@ -1,8 +1,7 @@
 use mathlib.Core.Path.{◌≡◌, refl, ◌∙◌}
 use mathlib.Core.List.{List}
-use Prim.Native.Nat.{ℕ, ◌-◌, ◌≤◌, ◌<◌, ◌^◌}
+use Prim.Native.Nat.{ℕ, ◌<◌, ◌^◌}
 use native.Mathlib.Omega.{arith}
-use lib.ListN.{length}
 use Rattle.paths.specs.Links.{linked}
 use Rattle.logs.specs.Content.{least_pause}
 use Rattle.logs.specs.Log.{content_of, graph_of, PassedLog}
@@ -10,7 +9,7 @@ use Rattle.copying.specs.FairCopy.{linked_to}
 use Rattle.copying.specs.Copying.{GroupWritten}
 use Rattle.paths.proofs.Passing.{length_passing}
 use Rattle.copying.proofs.Rows.{passed_few, next_block}
-use Rattle.copying.proofs.Copies.{copying_none, copying_length, copying_at, copying_room, copying_on, copying_all, episodes_few, links_few, group_length_few}
+use Rattle.copying.proofs.Copies.{copying_none, copying_at, copying_room, copying_on, episodes_few, links_few, group_length_few}
 use Rattle.copying.proofs.write_groups.Goals as goal
 
 pub loop-a-init : goal.loop-a-init

@@ -1,9 +1,6 @@
 -- `fair_copy::copy_asked` meets its contract: on each way out the questions have been answered as it says. Assumes nothing.
-use mathlib.Core.Path.{◌≡◌, sym}
-use Prim.Native.Nat.{◌<◌, ◌^◌}
+use mathlib.Core.Path.{sym}
 use native.Mathlib.Omega.{arith}
-use Rattle.logs.specs.Answer.{given}
-use Rattle.logs.specs.Log.{questions}
 use Rattle.logs.proofs.Laws.{words_small}
 use Rattle.copying.specs.FairCopy.{fair_need}
 use Rattle.report.proofs.Asked.{asked_denied, asked_short_output, asked_short_work, asked_passes}

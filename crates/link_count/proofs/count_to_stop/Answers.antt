@@ -1,10 +1,9 @@
 use native.Mathlib.Omega.{arith}
-use mathlib.Core.Path.{◌≡◌, ◌∙◌, sym, ap}
-use mathlib.Core.Logic.{⊎_elim}
+use mathlib.Core.Path.{◌≡◌, ◌∙◌, sym}
 use mathlib.Core.Bool.{true}
 use mathlib.Core.List.{List}
 use Prim.Native.Nat.{ℕ, ◌+◌, ◌-◌, ◌*◌, ◌≤◌, ◌<◌}
-use lib.ListN.{length, get_or, length-replicate}
+use lib.ListN.{length, get_or}
 use Rattle.logs.specs.Words.{kind, number, to_episode}
 use Rattle.logs.specs.Log.{to_before_last}
 use Rattle.logs.specs.Groups.{nearest_from}
@@ -13,7 +12,6 @@ use Rattle.logs.proofs.Groups.{InGroup, first_group, from_taken, from_episode, f
 use Rattle.logs.proofs.Laws.{pass_from, pass_to}
 use Rattle.logs.specs.declared.Ceilings.{Ceilings}
 use Rattle.bits.specs.Bits.{bit, BitSet}
-use Rattle.link_count.specs.Counted.{LinksStopped}
 use Rattle.link_count.proofs.Counting.{Counting, counting_start, counting_from, counting_to}
 use Rattle.link_count.proofs.count_to_stop.Goals as goal
 use Rattle.link_count.proofs.count_to_stop.Goals.{then-at-last, else-at-last+in_default, else-at-last+in-Taken+in_default-to_word}

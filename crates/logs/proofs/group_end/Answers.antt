@@ -1,5 +1,4 @@
 use mathlib.Core.Path.{◌∙◌, sym}
-use Prim.Native.Nat.{◌-◌}
 use Rattle.logs.proofs.Walk.{no_words, words_more}
 use Rattle.logs.proofs.group_end.Goals as goal
 

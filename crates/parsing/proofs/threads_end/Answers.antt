@@ -1,5 +1,5 @@
 use mathlib.Core.Path.{◌≡◌, subst}
-use Prim.Native.Nat.{ℕ, ◌-◌}
+use Prim.Native.Nat.{ℕ}
 use native.Mathlib.Omega.{arith}
 use Rattle.parsing.specs.Parsing.{ThreadEnd, ThreadsEnd}
 use Rattle.parsing.proofs.ThreadParse.{threads_none, threads_more, threads_missing}

@@ -1,4 +1,3 @@
-use Prim.Native.Nat.{◌-◌}
 use native.Mathlib.Omega.{arith}
 use Rattle.reach.proofs.Rounds.{closure_start, closure_round, closure_end}
 use Rattle.reach.proofs.close.Goals as goal

@@ -1,5 +1,4 @@
 use mathlib.Core.Path.{refl}
-use Prim.Native.Nat.{◌-◌}
 use native.Mathlib.Omega.{arith}
 use Rattle.reach.proofs.Rounds.{round_start, round_row, round_end}
 use Rattle.reach.proofs.close_round.Goals as goal

@@ -1,4 +1,3 @@
-use Prim.Native.Nat.{◌-◌}
 use native.Mathlib.Omega.{arith}
 use Rattle.bits.specs.Work.{links_at, ways_at, matrix_words}
 use Rattle.bits.proofs.Rows.{copying_none, copying_more}

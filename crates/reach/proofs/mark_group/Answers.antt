@@ -1,11 +1,5 @@
 use mathlib.Core.Path.{◌∙◌, sym}
-use mathlib.Core.Bool.{true}
-use Prim.Native.Nat.{◌+◌, ◌-◌}
-use native.Mathlib.Omega.{arith}
-use Rattle.logs.specs.Log.{to_before_last}
-use Rattle.logs.proofs.Walk.{to_fits}
-use Rattle.reach.specs.Reach.{GroupMarked}
-use Rattle.reach.proofs.Marks.{group_first, group_more}
+use Rattle.reach.proofs.Marks.{group_more}
 use Rattle.reach.proofs.mark_group.Goals as goal
 
 pub loop-preserved : goal.loop-preserved

@@ -1,9 +1,7 @@
 -- `report::prepare` meets its contract: the regions are made zero, and the links and the ways of the log are put there. Assumes nothing.
-use mathlib.Core.List.{◌++◌}
 use native.Mathlib.Omega.{arith}
-use lib.ListN.{drop}
 use Rattle.bits.specs.Work.{used_words}
-use Rattle.bits.proofs.Frames.{Cleared, part_cleared}
+use Rattle.bits.proofs.Frames.{part_cleared}
 use Rattle.report.proofs.Calls.{ready}
 use Rattle.report.proofs.prepare.Goals as goal
 

@@ -1,10 +1,7 @@
 -- `report::report_within` meets its contract: on each way out the questions have been answered as the outcome says, and the buffers are
 -- as it says. Assumes nothing.
-use mathlib.Core.Path.{◌≡◌}
 use native.Mathlib.Omega.{arith}
 use lib.Seq.{length-take-le}
-use Rattle.logs.specs.Answer.{given}
-use Rattle.logs.specs.Log.{questions}
 use Rattle.logs.proofs.Laws.{graph_episodes}
 use Rattle.report.specs.Report.{work_words}
 use Rattle.report.proofs.Calls.{told, passed_few, passed_log, left_denied, left_short_output, left_short_work, left_answered, work_cleared}

@@ -1,6 +1,6 @@
 -- `report::show_loop` meets its contract: where an episode has a way to itself a loop is found and written. Assumes nothing.
 use native.Mathlib.Omega.{arith}
-use Rattle.report.proofs.Answers.{looping, loop_sought, none_sought}
+use Rattle.report.proofs.Answers.{loop_sought}
 use Rattle.report.proofs.show_loop.Goals as goal
 
 pub returns : goal.returns

@@ -1,7 +1,6 @@
 -- `rising::reach_rising` meets its contract. The invariant: the rows from `a` on have their ways, no other row has a bit, and those of
 -- these episodes that have links are in `linked`.
 -- Assumes nothing.
-use Prim.Native.Nat.{◌-◌}
 use Rattle.rising.proofs.Rising.{InRising}
 use Rattle.rising.proofs.reach_rising.Given as goal
 

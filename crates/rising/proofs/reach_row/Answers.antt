@@ -1,5 +1,4 @@
 use mathlib.Core.Path.{refl}
-use Prim.Native.Nat.{◌-◌}
 use native.Mathlib.Omega.{arith}
 use Rattle.bits.specs.Work.{ways_at}
 use Rattle.rising.proofs.Rising.{row_start, row_on, row_end}

@@ -1,4 +1,3 @@
-use Prim.Native.Nat.{◌-◌}
 use native.Mathlib.Omega.{arith}
 use Rattle.rising.proofs.Rising.{taking_start, taking_on, taking_end}
 use Rattle.rising.proofs.take_ends.Goals as goal

@@ -1,4 +1,3 @@
-use Prim.Native.Nat.{◌-◌}
 use native.Mathlib.Omega.{arith}
 use Rattle.searching.proofs.Showing.{showing_start, showing_more, showing_found, showing_end}
 use Rattle.searching.proofs.show.Goals as goal

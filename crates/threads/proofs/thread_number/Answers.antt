@@ -1,7 +1,7 @@
 -- `report::thread_number` meets its contract: on each way out the tests have found what its number says.
 -- Assumes nothing.
 use native.Mathlib.Omega.{arith}
-use Rattle.threads.proofs.ThreadCalls.{no_report, no_thread, a_thread}
+use Rattle.threads.proofs.ThreadCalls.{no_thread, a_thread}
 use Rattle.threads.proofs.thread_number.Goals as goal
 
 pub returns-then-k-i : goal.returns-then-k-i

@@ -1,7 +1,6 @@
 -- `report::thread_stretch` meets its contract: the stretch is the steps of the thread that is there.
 -- Assumes nothing.
 use native.Mathlib.Omega.{arith}
-use Rattle.parsing.specs.Whole.{HasThread}
 use Rattle.parsing.proofs.Wholes.{Room, thread_room}
 use Rattle.threads.proofs.ThreadCalls.{no_stretch, its_stretch}
 use Rattle.threads.proofs.thread_stretch.Goals as goal

@@ -1,18 +1,13 @@
 -- `trimmed_copy::trimmed_copy_within` meets its contract: on each way out the questions have been answered as the outcome says, and the buffers
 -- are as it says. Assumes nothing.
-use mathlib.Core.Path.{◌≡◌}
-use Prim.Native.Nat.{◌≤◌}
 use native.Mathlib.Omega.{arith}
 use lib.ListN.{length}
 use lib.Seq.{length-take-le}
-use Rattle.logs.specs.Answer.{given}
-use Rattle.logs.specs.Log.{questions}
 use Rattle.logs.proofs.Laws.{few_episodes, graph_episodes}
 use Rattle.copying.specs.FairCopy.{fair_need}
 use Rattle.report.specs.Report.{work_words}
 use Rattle.report.proofs.Asked.{asked_given}
 use Rattle.report.proofs.Calls.{told, work_cleared}
-use Rattle.fair_copy.specs.Copied.{copy_asked}
 use Rattle.trimmed_copy.proofs.TrimCalls.{enough, trim_refused, trim_left}
 use Rattle.trimmed_copy.proofs.trimmed_copy_within.Goals as goal
 

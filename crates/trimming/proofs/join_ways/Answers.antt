@@ -1,7 +1,5 @@
-use Prim.Native.Nat.{◌-◌, ◌<◌}
 use native.Mathlib.Omega.{arith}
-use lib.Count.{count_trailing_zeros}
-use Rattle.bits.proofs.Digits.{rest_below, rest_less}
+use Rattle.bits.proofs.Digits.{rest_less}
 use Rattle.trimming.proofs.Joining.{taking_start, taking_on, taking_end}
 use Rattle.trimming.proofs.join_ways.Goals as goal
 

@@ -1,7 +1,4 @@
-use mathlib.Core.Path.{ap}
-use Prim.Native.Nat.{◌-◌}
 use native.Mathlib.Omega.{arith}
-use lib.ListN.{length}
 use Rattle.trimming.proofs.Joining.{noting_start, noting_on, noting_end}
 use Rattle.trimming.proofs.note_implied.Goals as goal
 

@@ -1,7 +1,7 @@
 use mathlib.Core.Path.{◌≡◌, subst}
-use Prim.Native.Nat.{ℕ, ◌+◌, ◌-◌, ◌*◌, ◌≤◌}
+use Prim.Native.Nat.{ℕ, ◌+◌, ◌*◌}
 use native.Mathlib.Omega.{arith}
-use lib.ListN.{length, length-set}
+use lib.ListN.{length}
 use Rattle.writing.proofs.Listing.{Listing, listing_none}
 use Rattle.copying.proofs.Groups.{group_links_lem, group_no_links}
 use Rattle.trimming.specs.TrimmedCopy.{no_pause}

@@ -1,15 +1,14 @@
 use mathlib.Core.Path.{◌≡◌, refl, ◌∙◌}
 use mathlib.Core.List.{List}
-use Prim.Native.Nat.{ℕ, ◌-◌, ◌≤◌, ◌<◌, ◌^◌}
+use Prim.Native.Nat.{ℕ, ◌<◌, ◌^◌}
 use native.Mathlib.Omega.{arith}
-use lib.ListN.{length}
 use Rattle.paths.specs.Graph.{Graph}
 use Rattle.paths.specs.Links.{linked}
 use Rattle.paths.proofs.Passing.{length_passing}
 use Rattle.copying.specs.FairCopy.{linked_to}
 use Rattle.copying.specs.Copying.{GroupWritten}
 use Rattle.copying.proofs.GroupLinks.{length_group_links}
-use Rattle.copying.proofs.Copies.{Copying, copying_none, copying_length, copying_at, copying_room, copying_on, copying_all, group_length_few}
+use Rattle.copying.proofs.Copies.{copying_none, copying_length, copying_at, copying_room, copying_on, copying_all, group_length_few}
 use Rattle.trimming.specs.TrimmedCopy.{trimmed, no_pause}
 use Rattle.trimming.specs.Trimming.{Held}
 use Rattle.trimming.proofs.Kept.{trimmed_is, trimmed_few}

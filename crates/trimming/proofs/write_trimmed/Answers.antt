@@ -1,10 +1,7 @@
 -- `trimming::write_trimmed` meets its contract: the head and the end go before and behind the groups.
 -- Assumes nothing.
 use mathlib.Core.Path.{◌∙◌}
-use Prim.Native.Nat.{◌<◌}
 use native.Mathlib.Omega.{arith}
-use lib.ListN.{length}
-use Rattle.copying.specs.Copying.{GroupsWritten}
 use Rattle.copying.proofs.GroupLinks.{length_group_links}
 use Rattle.copying.proofs.Copies.{end_room, copy_whole}
 use Rattle.trimming.specs.TrimmedCopy.{trimmed, no_pause}

@@ -1,11 +1,7 @@
-use mathlib.Core.Path.{◌≡◌, subst}
-use Prim.Native.Nat.{ℕ, ◌+◌, ◌-◌, ◌<◌}
+use Prim.Native.Nat.{◌+◌}
 use native.Mathlib.Omega.{arith}
 use lib.Count.{count_trailing_zeros}
-use lib.ListN.{length}
-use Rattle.bits.proofs.Digits.{rest_start, rest_below, rest_on, rest_less}
-use Rattle.writing.proofs.Listing.{Listing}
-use Rattle.trimming.specs.Trimming.{to_unpaused}
+use Rattle.bits.proofs.Digits.{rest_on, rest_less}
 use Rattle.trimming.proofs.Rows.{bit_room, bit_written, bits_written}
 use Rattle.trimming.proofs.write_word.Goals as goal
 

@@ -1,4 +1,3 @@
-use Prim.Native.Nat.{◌-◌}
 use native.Mathlib.Omega.{arith}
 use Rattle.bits.specs.Work.{ways_at}
 use Rattle.bits.proofs.Rows.{bit_column}

@@ -1,12 +1,9 @@
 use mathlib.Core.Path.{sym, ◌∙◌}
-use Prim.Native.Nat.{◌-◌}
 use native.Mathlib.Omega.{arith}
-use lib.ListN.{length-set}
 use Rattle.searching.specs.Items.{member_test}
 use Rattle.searching.specs.State.{tables}
 use Rattle.logs.specs.Words.{word}
 use Rattle.writing.proofs.Listing.{listing_none, listing_more, listing_same}
-use Rattle.writing.proofs.Apart.{apart_done}
 use Rattle.writing.proofs.write_apart.Goals as goal
 use Rattle.writing.proofs.write_apart.Goals.{then-is_member, else-is_member}
 

@@ -1,5 +1,5 @@
 use mir.Facts.{Fits-widen}
-use Prim.Native.Nat.{◌+◌, ◌-◌}
+use Prim.Native.Nat.{◌+◌}
 use native.Mathlib.Omega.{arith}
 use lib.ListN.{length-set}
 use Rattle.writing.proofs.Walks.{loop_next, loop_room, walk_first, walk_room, walk_fits, walk_more, walk_done}

@@ -1,8 +1,8 @@
 use mathlib.Core.Logic.{⊎_elim}
-use Prim.Native.Nat.{◌-◌, ◌<◌}
+use Prim.Native.Nat.{◌<◌}
 use native.Mathlib.Omega.{arith}
-use lib.ListN.{length, length-set}
-use Rattle.writing.proofs.Stepping.{stepping_none, stepping_length, stepping_room, stepping_less, stepping_more, stepping_ends}
+use lib.ListN.{length}
+use Rattle.writing.proofs.Stepping.{stepping_length, stepping_room, stepping_less, stepping_more, stepping_ends}
 use Rattle.writing.proofs.write_path.Goals as goal
 
 room : (c : goal.After-hop-at) → c.loop-at.count < length c.args.out.now

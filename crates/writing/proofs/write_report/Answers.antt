@@ -2,9 +2,8 @@
 -- Assumes nothing.
 use Prim.Native.Nat.{◌+◌, ◌<◌}
 use native.Mathlib.Omega.{arith}
-use lib.ListN.{length-set}
 use Rattle.writing.specs.Layout.{report_need}
-use Rattle.writing.proofs.Reporting.{report_few, apart_le, apart_fits, threads_room, end_lt, whole_length, report_written}
+use Rattle.writing.proofs.Reporting.{report_few, threads_room, end_lt, whole_length, report_written}
 use Rattle.writing.proofs.write_report.Goals as goal
 
 pub write_threads-requires : goal.write_threads-requires

@@ -1,13 +1,10 @@
-use mir.Facts.{Fits-widen}
 use mathlib.Core.Path.{◌≡◌, refl, sym, ◌∙◌}
-use Prim.Native.Nat.{◌+◌, ◌-◌, ◌*◌, ◌≤◌, ◌<◌}
+use Prim.Native.Nat.{◌+◌, ◌-◌, ◌≤◌, ◌<◌}
 use native.Mathlib.Omega.{arith}
 use lib.ListN.{length, length-set}
 use Rattle.logs.specs.Words.{word}
-use Rattle.bits.specs.Bits.{bit}
-use Rattle.bits.specs.Work.{ways_at}
 use Rattle.searching.specs.State.{tables}
-use Rattle.writing.proofs.Filling.{starts_room, filling_starts, filling_length, filling_at, filling_le, filling_room, next_way, filling_more, filling_less, filling_ends, written_over}
+use Rattle.writing.proofs.Filling.{starts_room, filling_starts, filling_le, filling_room, next_way, filling_more, filling_less, filling_ends, written_over}
 use Rattle.writing.proofs.write_thread.Goals as goal
 
 -- the chain's first episode is below n, so it is small, and there is room for it

@@ -1,10 +1,6 @@
-use mathlib.Core.Path.{sym, ap, ◌∙◌}
-use Prim.Native.Nat.{◌-◌, ◌≤◌}
+use mathlib.Core.Path.{sym, ◌∙◌}
 use native.Mathlib.Omega.{arith}
-use lib.ListN.{length, take, drop, length-drop}
-use Rattle.writing.specs.Layout.{thread_words}
-use Rattle.writing.proofs.Buffers.{lent_part}
-use Rattle.writing.proofs.Bundling.{bundling_none, bundling_length, bundling_at, bundling_same, bundling_fits, bundling_lent, bundling_ends}
+use Rattle.writing.proofs.Bundling.{bundling_none, bundling_same, bundling_fits, bundling_lent}
 use Rattle.writing.proofs.write_threads.Goals as goal
 use Rattle.writing.proofs.write_threads.Goals.{then-is_member, else-is_member}
 
