@@ -7,9 +7,9 @@ loop-k-init c = (omega arith, copying_none _ _ _)
 
 pub loop-k-preserved : goal.loop-k-preserved
 loop-k-preserved c =
-    let s = c.before.before.before in
+    let a = c.args in
     let at = c.loop-k in
-    (omega arith, copying_more s.args.w.now at.w s.args.to s.args.from 8 at.k s.requires.2 (omega arith) (omega arith) at.invariant.1)
+    (omega arith, copying_more a.w.now at.w a.to a.from 8 at.k c.requires.2 (omega arith) (omega arith) at.invariant.1)
 
 pub returns : goal.returns
 returns c =

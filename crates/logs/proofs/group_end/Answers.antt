@@ -7,9 +7,8 @@ loop-at-init c = no_words c.args.log.now c.args.start c.requires
 
 pub loop-at-preserved : goal.loop-at-preserved
 loop-at-preserved c =
-    let s = c.before.before.before.before in
     let at = c.loop-at in
-    words_more s.args.log.now s.args.start at.at at.invariant (sym c.to_before_last.ensures ∙ c.loop-at-test.true)
+    words_more c.args.log.now c.args.start at.at at.invariant (sym c.to_before_last.ensures ∙ c.loop-at-test.true)
 
 pub returns : goal.returns
 returns c = (c.loop-at.invariant, sym c.to_before_last.ensures ∙ c.loop-at-test.false)

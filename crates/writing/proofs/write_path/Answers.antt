@@ -1,20 +1,18 @@
 use mathlib.Core.Logic.{⊎_elim}
-use Prim.Native.Nat.{◌<◌}
 use native.Mathlib.Omega.{arith}
-use lib.ListN.{length}
 use Rattle.writing.proofs.Stepping.{stepping_length, stepping_room, stepping_less, stepping_more, stepping_ends}
 use Rattle.writing.proofs.write_path.Goals as goal
 
-room : (c : goal.After-hop-at) → c.loop-at.count < length c.args.out.now
-room c = let p = c.requires.0 in stepping_room c.loop-at.invariant.0 c.hop-at.ensures p.1 p.2
-
 pub bounds-out-count : goal.bounds-out-count
-bounds-out-count c = omega (arith, room c, stepping_length c.loop-at.invariant.0)
+bounds-out-count c =
+    let p = c.requires.0 in
+    omega (arith, stepping_room c.loop-at.invariant.0 c.hop-at.ensures p.1 p.2, stepping_length c.loop-at.invariant.0)
 
 pub returns-then-at-b : goal.returns-then-at-b
 returns-then-at-b c =
-    let room_here : c.loop-at.count < length c.args.out.now = let p = c.requires.0 in stepping_room c.loop-at.invariant.0 c.hop-at.ensures p.1 p.2 in
-    stepping_ends c.loop-at.invariant.0 c.hop-at.ensures c.if-at-b.true room_here
+    let p = c.requires.0 in
+    let room = stepping_room c.loop-at.invariant.0 c.hop-at.ensures p.1 p.2 in
+    stepping_ends c.loop-at.invariant.0 c.hop-at.ensures c.if-at-b.true room
 
 pub loop-at-smaller : goal.loop-at-smaller
 loop-at-smaller c =
@@ -23,7 +21,8 @@ loop-at-smaller c =
 
 pub loop-at-preserved : goal.loop-at-preserved
 loop-at-preserved c =
-    let room_here : c.loop-at.count < length c.args.out.now = let p = c.requires.0 in stepping_room c.loop-at.invariant.0 c.hop-at.ensures p.1 p.2 in (
-      stepping_more c.loop-at.invariant.0 c.hop-at.ensures c.requires.0.1 room_here,
+    let p = c.requires.0 in
+    let room = stepping_room c.loop-at.invariant.0 c.hop-at.ensures p.1 p.2 in (
+      stepping_more c.loop-at.invariant.0 c.hop-at.ensures p.1 room,
       ⊎_elim (λ e. absurd (c.if-at-b.false e)) (λ e. e) c.hop-at.ensures.nearer,
     )

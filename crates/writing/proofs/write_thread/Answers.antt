@@ -7,24 +7,17 @@ use Rattle.searching.specs.State.{tables}
 use Rattle.writing.proofs.Filling.{starts_room, filling_starts, filling_le, filling_room, next_way, filling_more, filling_less, filling_ends, written_over}
 use Rattle.writing.proofs.write_thread.Goals as goal
 
--- the chain's first episode is below n, so it is small, and there is room for it
-start_below : (c : goal.After-chain_start-at) → c.chain_start-at.result < c.args.n
-start_below c =
-    c.chain_start-at.ensures.below c.args.n c.requires.0.1.matching c.requires.1
-
-start_room : (c : goal.After-chain_start-at) → 1 < length c.args.out.now
-start_room c =
-    let p = c.requires.0 in
-    starts_room c.args.out.now (start_below c) p.1 p.2
-
+-- The chain's first episode is below n, so it is small, and there is room for it.
 pub bounds-out-1 : goal.bounds-out-1
-bounds-out-1 c = start_room c
+bounds-out-1 c =
+    let p = c.requires.0 in
+    starts_room c.args.out.now (c.chain_start-at.ensures.below c.args.n p.1.matching c.requires.1) p.1 p.2
 
 pub loop-next-init : goal.loop-next-init
 loop-next-init c =
-    let start_below_here = c.chain_start-at.ensures.below c.args.n c.requires.0.1.matching c.requires.1 in
-    let start_room_here : 1 < length c.args.out.now = let p = c.requires.0 in starts_room c.args.out.now start_below_here p.1 p.2 in
-    (filling_starts c.args.out.now start_below_here c.chain_start-at.ensures start_room_here, refl)
+    let p = c.requires.0 in
+    let below = c.chain_start-at.ensures.below c.args.n p.1.matching c.requires.1 in
+    (filling_starts c.args.out.now below c.chain_start-at.ensures (starts_room c.args.out.now below p.1 p.2), refl)
 
 pub write_path-count-requires : goal.write_path-count-requires
 write_path-count-requires c =
