@@ -126,6 +126,10 @@ module _ (e w₁ : List ℕ) (base m a item : ℕ) (z : Extendable e base m a) (
         },
       )
 
+  -- after the first step back
+  pub going_first : (w' : List ℕ) (old : ℕ) → item < m → FlippedIn w₁ w' item old → (tail : ℕ) × Going w₁ w' base m tail old
+  going_first w' old l k = let (tail, s) = going_start l in (tail, going_more w₁ w₁ base m tail (item + 1) item s refl w' old k)
+
   -- one chain fewer; `w'` are the words after what is dead has been copied
   pub going_end : (w w' : List ℕ) (tail old : ℕ) → Going w₁ w base m tail old → old ≡ 0 → RowCopied w w' seen_at dead_at → ExtendedIn e w' base m a
   going_end w w' tail old s q c =

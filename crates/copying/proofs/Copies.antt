@@ -6,6 +6,8 @@ use native.Mathlib.Numerals.{add-one}
 use native.Mathlib.Omega.{arith}
 use lib.ListN.{length, get_or, set, take, drop, length-append, length-map, length-drop}
 use Rattle.paths.specs.Graph.{Graph}
+use Rattle.paths.specs.Links.{linked}
+use Rattle.paths.proofs.Passing.{length_passing}
 use Rattle.logs.specs.Words.{word}
 use Rattle.logs.specs.Log.{graph_of, PassedLog}
 use Rattle.logs.proofs.Words.{number_lt}
@@ -24,6 +26,10 @@ episodes_few l = number_lt (get_or l 0 0)
 pub links_few : (l : List ℕ) → PassedLog l → (k : ℕ) → length (group_links (graph_of l) k) < 2 ^ 28
 links_few l (m, n, t, e, few) k =
     omega (arith, words_small m l n t e, graph_count m l n t e, length_group_links (graph_of l) k)
+
+-- one episode of few has few links
+pub few_links : (ls : List (ℕ × ℕ)) (n a : ℕ) {pause : ℕ → ℕ} {o o' : List ℕ} {r : ℕ} → n < 2 ^ 28 → GroupWritten a pause (linked_to a ls n) o o' r → r < 2 ^ 28
+few_links ls n a few g = omega (arith, g.count, length_passing (λ b. linked a b ls) n)
 
 group_links_more : (g : Graph) (a : ℕ) → group_links g (a + 1) ≡ group_links g a ++ links_of a (linked_to a g.links g.n)
 unfolding group_links

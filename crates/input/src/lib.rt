@@ -1,8 +1,13 @@
-// The bytes of a log as words: questions 14 and 15, and 11 of the lent words.
+// The bytes of a log as words: questions 14 and 15, and 11 of the lent words. The bytes of a reader.
 #![tactic(auto)]
 
-ghost use Rattle.std.specs.Prelude.{◌≡◌, ◌++◌, ◌+◌, ◌*◌, ◌<◌, ◌≤◌, length, drop};
+ghost use Rattle.std.specs.Prelude.{◌≡◌, ◌++◌, ◌+◌, ◌*◌, ◌<◌, ◌≤◌, IfOk, length, take, drop};
+ghost use Rattle.std.specs.Io.{ReadsAtMost};
+ghost use Rattle.std.specs.Io.KnownBytes.{Consumes, IsAtEnd};
 ghost use Rattle.input.specs.Input.{words_of, word_at, WordsTaken};
+
+use std::io;
+use std::io::Read;
 
 // The most bytes: those of the longest log that passes, 2 + 2 * 4,096 words.
 pub const MOST_BYTES: usize = 32776;
@@ -60,4 +65,22 @@ pub fn words_of(bytes: &[u8], words: &mut [u32]) -> Taken
     }
     fill(bytes, words, count);
     Taken::Words(count)
+}
+
+// Reads until the buffer is full or the input ends, and gives the count of bytes that it put at the start of the buffer; the error where
+// a read fails. What stands behind these bytes afterwards is the reader's choice.
+pub fn read_all<R: Read>(reader: &mut R, buffer: &mut [u8]) -> io::Result<usize>
+    ensures within { ReadsAtMost result buffer.new }
+    ensures bytes { IfOk result (λ n. Consumes (R.remaining reader.old) (R.remaining reader.new) (take n buffer.new)) }
+    ensures end { IfOk result (λ n. n < length buffer.new → IsAtEnd (R.remaining reader.new)) }
+{
+    let mut done = 0;
+    while done < buffer.len() {
+        let more = reader.read(&mut buffer[done..])?;
+        if more == 0 {
+            return Ok(done);
+        }
+        done += more;
+    }
+    Ok(done)
 }

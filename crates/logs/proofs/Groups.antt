@@ -4,7 +4,7 @@ use mathlib.Core.Path.{◌≡◌, refl, ◌∙◌, ap, sym}
 use mathlib.Core.Logic.{◌⊎◌, inl, inr, ⊎_elim}
 use mathlib.Core.Bool.{true, false, true≢false}
 use mathlib.Core.List.{List}
-use Prim.Native.Nat.{ℕ, ◌+◌, ◌<◌, ◌≤◌}
+use Prim.Native.Nat.{ℕ, ◌+◌, ◌-◌, ◌<◌, ◌≤◌}
 use native.Mathlib.Omega.{arith}
 use lib.Dec.{ltb}
 use lib.ListN.{length, get_or, drop}
@@ -103,16 +103,16 @@ module _ (m : Ceilings) (l : List ℕ) (n p t : ℕ) where
           }
 
     -- of a to word behind its group's from word, 7 and 8 are left to ask
-    module _ (g : InGroup m l n p t) (kind_to : to_before_last l p ≡ true)
+    module _ (g : InGroup m l n p t) (to_here : to_before_last l p ≡ true)
         (e : word_answer r
         ≡ question 7 p (ltb (to_episode (get_or l p 0)) n)
         (question 8 p (ltb t m.words) (given (3, to_episode (get_or l p 0), to_pause (get_or l p 0))))) where
       all_asked : word_answer r ≡ group_word m n p (get_or l p 0) (drop (p + 1) l) true t
-      all_asked = e ∙ sym (group_to m n p (get_or l p 0) (drop (p + 1) l) true t (to_there l p kind_to).1)
+      all_asked = e ∙ sym (group_to m n p (get_or l p 0) (drop (p + 1) l) true t (to_there l p to_here).1)
 
       pub to_taken : (q : ℕ) → r ≡ Taken k x q → InGroup m l n (p + 1) (t + 1)
       to_taken q is =
-          let there = to_there l p kind_to in
+          let there = to_there l p to_here in
           record {
             behind_from = omega arith;
             within = there.0;
@@ -132,10 +132,14 @@ module _ (m : Ceilings) (l : List ℕ) (n p t : ℕ) where
 
       pub to_given_up : r ≡ GivenUp k x → Stopped m l n p t
       to_given_up is =
-          let there = to_there l p kind_to in
+          let there = to_there l p to_here in
           let given-up = sym all_asked ∙ ap word_answer is in
           record {
             within = g.within;
             answer = rw (lt-ltb 1 p g.behind_from) (sym g.same ∙ stop_refused m l n p true t k x there.0 given-up);
             ended = inr (k, x, rw (lt-ltb 1 p g.behind_from) (word_between m l n p true t there.0 ∙ given-up));
           }
+
+-- the place behind a to word, where the to words before it are told by `others`, the words before it that are none
+pub group_by_others : (m : Ceilings) (l : List ℕ) (n p others : ℕ) → others ≤ p → InGroup m l n (p + 1) (p - others + 1) → InGroup m l n (p + 1) (p + 1 - others)
+group_by_others m l n p others h g = let same : p - others + 1 ≡ p + 1 - others = omega arith in rw same at g

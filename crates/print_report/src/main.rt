@@ -2,7 +2,6 @@
 #![tactic(auto)]
 
 mod show;
-mod stdin;
 
 use input::Taken;
 use link_count::LinkCount;
@@ -58,7 +57,7 @@ fn take(rt: &impl Print, bytes: &[u8]) -> io::Result<()> {
 fn main(rt: HostRuntime) -> io::Result<()> {
     // Longer than the longest log that passes: a full buffer is refused, whatever stands behind it.
     let mut buffer = [0u8; 65536];
-    match stdin::read_all(&mut rt.stdin(), &mut buffer) {
+    match input::read_all(&mut rt.stdin(), &mut buffer) {
         Ok(count) => take(&rt, &buffer[..count]),
         Err(_) => show::unreadable(&rt),
     }

@@ -6,14 +6,13 @@
 mod full;
 mod lines;
 mod show;
-mod stdin;
 mod words;
 
 use std::io;
 
 fn main(rt: HostRuntime) -> io::Result<()> {
     let mut buffer = [0u8; 65536];
-    let count = stdin::read_all(&mut rt.stdin(), &mut buffer)?;
+    let count = input::read_all(&mut rt.stdin(), &mut buffer)?;
     lines::all(&rt, &buffer[..count])?;
     if count == buffer.len() {
         show::write(&rt, b"stdin is too long\n")?;

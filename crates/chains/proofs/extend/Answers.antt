@@ -1,7 +1,6 @@
-use mathlib.Core.Path.{refl}
-use Prim.Native.Nat.{◌+◌, ◌-◌}
+use Prim.Native.Nat.{◌-◌}
 use native.Mathlib.Omega.{arith}
-use Rattle.chains.proofs.Extending.{flip_asked, going_more, going_less, not_end, going_start, going_end, in_vain}
+use Rattle.chains.proofs.Extending.{flip_asked, going_more, going_less, not_end, going_first, going_end, in_vain}
 use Rattle.chains.proofs.extend.Goals as goal
 
 pub returns-then-w-a-ne0 : goal.returns-then-w-a-ne0
@@ -19,11 +18,10 @@ flip-old-requires-in-loop-old c =
     let a = c.args in
     let at = c.loop-old in
     let h = c.search-found in
-    let first = c.flip-old in
-    let (tail, begun) = going_start a.w.now h.new.w a.base a.m a.a h.result c.requires.0 h.ensures (omega (arith, h.ensures.item_le)) in
-    let s =
-    at.invariant h.new.w tail
-    (going_more h.new.w h.new.w a.base a.m tail (h.result + 1) h.result begun refl first.new.w first.result first.ensures) in
+    let f = c.flip-old in
+    let (tail, first) =
+    going_first a.w.now h.new.w a.base a.m a.a h.result c.requires.0 h.ensures f.new.w f.result (omega (arith, h.ensures.item_le)) f.ensures in
+    let s = at.invariant h.new.w tail first in
     flip_asked h.new.w at.w a.base a.m tail at.old (at.old - 1) s (omega arith)
 
 pub loop-old-smaller : goal.loop-old-smaller
@@ -31,11 +29,10 @@ loop-old-smaller c =
     let a = c.args in
     let at = c.loop-old in
     let h = c.search-found in
-    let first = c.flip-old in
-    let (tail, begun) = going_start a.w.now h.new.w a.base a.m a.a h.result c.requires.0 h.ensures (omega (arith, h.ensures.item_le)) in
-    let s =
-    at.invariant h.new.w tail
-    (going_more h.new.w h.new.w a.base a.m tail (h.result + 1) h.result begun refl first.new.w first.result first.ensures) in
+    let f = c.flip-old in
+    let (tail, first) =
+    going_first a.w.now h.new.w a.base a.m a.a h.result c.requires.0 h.ensures f.new.w f.result (omega (arith, h.ensures.item_le)) f.ensures in
+    let s = at.invariant h.new.w tail first in
     let k = c.flip-old-in-loop-old in
     going_less h.new.w at.w a.base a.m tail at.old (at.old - 1) s (omega arith) k.new.w k.result k.ensures
 
@@ -52,10 +49,9 @@ returns c =
     let a = c.args in
     let at = c.loop-old in
     let h = c.search-found in
-    let first = c.flip-old in
-    let (tail, begun) = going_start a.w.now h.new.w a.base a.m a.a h.result c.requires.0 h.ensures (omega (arith, h.ensures.item_le)) in
-    let s =
-    at.invariant h.new.w tail
-    (going_more h.new.w h.new.w a.base a.m tail (h.result + 1) h.result begun refl first.new.w first.result first.ensures) in
+    let f = c.flip-old in
+    let (tail, first) =
+    going_first a.w.now h.new.w a.base a.m a.a h.result c.requires.0 h.ensures f.new.w f.result (omega (arith, h.ensures.item_le)) f.ensures in
+    let s = at.invariant h.new.w tail first in
     let k = c.copy_row-2 in
     going_end a.w.now h.new.w a.base a.m a.a h.result c.requires.0 h.ensures at.w k.new.w tail at.old s (omega arith) k.ensures

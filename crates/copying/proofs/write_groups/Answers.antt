@@ -1,15 +1,9 @@
-use mathlib.Core.Path.{◌≡◌, refl, ◌∙◌}
-use mathlib.Core.List.{List}
-use Prim.Native.Nat.{ℕ, ◌<◌, ◌^◌}
+use mathlib.Core.Path.{refl, ◌∙◌}
 use native.Mathlib.Omega.{arith}
-use Rattle.paths.specs.Links.{linked}
 use Rattle.logs.specs.Content.{least_pause}
-use Rattle.logs.specs.Log.{content_of, graph_of, PassedLog}
-use Rattle.copying.specs.FairCopy.{linked_to}
-use Rattle.copying.specs.Copying.{GroupWritten}
-use Rattle.paths.proofs.Passing.{length_passing}
+use Rattle.logs.specs.Log.{content_of, graph_of}
 use Rattle.copying.proofs.Rows.{passed_few, next_block}
-use Rattle.copying.proofs.Copies.{copying_none, copying_at, copying_room, copying_on, episodes_few, links_few, group_length_few}
+use Rattle.copying.proofs.Copies.{copying_none, copying_at, copying_room, copying_on, episodes_few, links_few, few_links, group_length_few}
 use Rattle.copying.proofs.write_groups.Goals as goal
 
 pub loop-a-init : goal.loop-a-init
@@ -27,27 +21,20 @@ copy_row-more-requires c = (
   copying_room c.loop-a.invariant.2 c.requires.3 _ c.requires.1 (omega arith),
 )
 
--- an episode has few links
-few_links : (log : List ℕ) (n a : ℕ) {o o' : List ℕ} {r : ℕ} → (graph_of log).n ≡ n → PassedLog log
-    → GroupWritten a (least_pause (content_of log) a) (linked_to a (graph_of log).links n) o o' r → r < 2 ^ 28
-few_links log n a e passed g =
-    let few = episodes_few log in
-    let most = length_passing (λ b. linked a b (graph_of log).links) n in
-    omega (arith, g.count, e)
-
 pub group_words-words-requires : goal.group_words-words-requires
-group_words-words-requires c = few_links c.args.log.now c.args.n c.loop-a.a c.requires.1 c.requires.0 c.copy_row-more.ensures.1
+group_words-words-requires c =
+    few_links (graph_of c.args.log.now).links c.args.n c.loop-a.a (omega (arith, episodes_few c.args.log.now, c.requires.1)) c.copy_row-more.ensures.1
 
 pub overflow_add-words : goal.overflow_add-words
 overflow_add-words c =
-    let few = few_links c.args.log.now c.args.n c.loop-a.a c.requires.1 c.requires.0 c.copy_row-more.ensures.1 in
+    let low = few_links (graph_of c.args.log.now).links c.args.n c.loop-a.a (omega (arith, episodes_few c.args.log.now, c.requires.1)) c.copy_row-more.ensures.1 in
     let within = copying_at c.loop-a.invariant.2 c.requires.3 in
     let group = group_length_few c.copy_row-more.result in
     omega (arith, within, c.group_words-words.ensures)
 
 pub overflow_add-links : goal.overflow_add-links
 overflow_add-links c =
-    let few = few_links c.args.log.now c.args.n c.loop-a.a c.requires.1 c.requires.0 c.copy_row-more.ensures.1 in
+    let low = few_links (graph_of c.args.log.now).links c.args.n c.loop-a.a (omega (arith, episodes_few c.args.log.now, c.requires.1)) c.copy_row-more.ensures.1 in
     omega (arith, c.loop-a.invariant.2.count, links_few c.args.log.now c.requires.0 c.loop-a.a)
 
 pub loop-a-preserved : goal.loop-a-preserved

@@ -8,9 +8,8 @@ use Rattle.logs.specs.Words.{kind, number, to_episode}
 use Rattle.logs.specs.Log.{to_before_last}
 use Rattle.logs.specs.Groups.{nearest_from}
 use Rattle.logs.proofs.Asked.{to_there}
-use Rattle.logs.proofs.Groups.{InGroup, first_group, from_taken, from_episode, from_given_up, to_taken, to_episode_lem, to_given_up, group_ends, at_last}
+use Rattle.logs.proofs.Groups.{first_group, from_taken, from_episode, from_given_up, to_taken, to_episode_lem, to_given_up, group_ends, group_by_others, at_last}
 use Rattle.logs.proofs.Laws.{pass_from, pass_to}
-use Rattle.logs.specs.declared.Ceilings.{Ceilings}
 use Rattle.bits.specs.Bits.{bit, BitSet}
 use Rattle.link_count.proofs.Counting.{Counting, counting_start, counting_from, counting_to}
 use Rattle.link_count.proofs.count_to_stop.Goals as goal
@@ -54,10 +53,6 @@ loop-to-init c =
       omega (arith, near, from, low, c.requires.1),
     )
 
--- the words before the place behind a to word that is taken, where the loop speaks of them
-passed : (m : Ceilings) (l : List ℕ) (n at others : ℕ) → others ≤ at → InGroup m l n (at + 1) (at - others + 1) → InGroup m l n (at + 1) (at + 1 - others)
-passed m l n at others h g = let same : at - others + 1 ≡ at + 1 - others = omega arith in rw same at g
-
 -- the to word at `at` is marked and counted
 counted : (l : List ℕ) (n at row b more links : ℕ) (seen seen' : List ℕ) → n ≤ 256 → 0 < at → at < length l → to_before_last l at ≡ true → Counting l at seen links
     → row ≡ 8 * nearest_from l at → nearest_from l at < 256 → (b ≡ to_episode (get_or l at 0)) × (b < n) → BitSet seen seen' row b × (more + bit seen row b ≡ 1)
@@ -78,7 +73,7 @@ log-preserved c =
     let others : ℕ = c.log.others + 1 in
     let behind : 0 < at.at = omega (arith, at.invariant.0.behind_from) in
     let group =
-    passed a.most a.log.now a.n at.at others (omega arith)
+    group_by_others a.most a.log.now a.n at.at others (omega arith)
     (to_taken a.most a.log.now a.n at.at (at.at - others) c.to_word.result w.field-0 w.to at.invariant.0 at.invariant.1 c.to_word.ensures w.field-2 w.is) in
     let episode = to_episode_lem a.most a.log.now a.n at.at (at.at - others) c.to_word.result w.field-0 w.to at.invariant.0 at.invariant.1 c.to_word.ensures w.field-2 w.is in
     let (counting, row, near) =
@@ -99,7 +94,7 @@ loop-to-preserved c =
     let others : ℕ = c.log.others + 1 in
     let behind : 0 < at.at = omega (arith, at.invariant.0.behind_from) in
     let group =
-    passed a.most a.log.now a.n at.at others (omega arith)
+    group_by_others a.most a.log.now a.n at.at others (omega arith)
     (to_taken a.most a.log.now a.n at.at (at.at - others) c.to_word.result w.field-0 w.to at.invariant.0 at.invariant.1 c.to_word.ensures w.field-2 w.is) in
     let episode = to_episode_lem a.most a.log.now a.n at.at (at.at - others) c.to_word.result w.field-0 w.to at.invariant.0 at.invariant.1 c.to_word.ensures w.field-2 w.is in
     let (counting, row, near) =

@@ -1,9 +1,7 @@
 use native.Mathlib.Omega.{arith}
 use mathlib.Core.Path.{◌≡◌, ◌∙◌, sym}
-use mathlib.Core.List.{List}
-use Prim.Native.Nat.{ℕ, ◌+◌, ◌-◌, ◌≤◌}
-use Rattle.logs.proofs.Groups.{InGroup, first_group, from_taken, from_given_up, to_taken, to_given_up, group_ends, at_last}
-use Rattle.logs.specs.declared.Ceilings.{Ceilings}
+use Prim.Native.Nat.{ℕ, ◌+◌, ◌-◌}
+use Rattle.logs.proofs.Groups.{first_group, from_taken, from_given_up, to_taken, to_given_up, group_ends, group_by_others, at_last}
 use Rattle.logs.proofs.first_stop.Goals as goal
 use Rattle.logs.proofs.first_stop.Goals.{then-at-last, else-at-last+in_default, else-at-last+in-Taken+in_default-to_word}
 
@@ -20,11 +18,6 @@ loop-at-init c =
     let same : at.at - at.others ≡ at.at + 1 - (at.others + 1) = omega arith in
     (rw same at in_group, to_here, omega arith, omega arith)
 
--- the to word at `at` is taken
-taken : (most : Ceilings) (log : List ℕ) (n at others : ℕ) → others ≤ at → InGroup most log n (at + 1) (at - others + 1)
-    → InGroup most log n (at + 1) (at + 1 - others)
-taken most log n at others h g = let same : at - others + 1 ≡ at + 1 - others = omega arith in rw same at g
-
 pub to_before_last-requires : goal.to_before_last-requires
 to_before_last-requires c =
     let a = c.args in
@@ -37,7 +30,7 @@ log-preserved c =
     let a = c.args in
     let at = c.loop-at in
     let others : ℕ = c.log.others + 1 in
-    let here = taken a.most a.log.now a.n at.at others (omega arith)
+    let here = group_by_others a.most a.log.now a.n at.at others (omega arith)
     (to_taken a.most a.log.now a.n at.at (at.at - others) c.to_word.result c.in-Taken-to_word.field-0 c.in-Taken-to_word.field-1 at.invariant.0 at.invariant.1
     c.to_word.ensures c.in-Taken-to_word.field-2 c.in-Taken-to_word.is) in
     let test = c.to_before_last in (
@@ -51,7 +44,7 @@ loop-at-preserved c =
     let a = c.args in
     let at = c.loop-at in
     let others : ℕ = c.log.others + 1 in
-    let here = taken a.most a.log.now a.n at.at others (omega arith)
+    let here = group_by_others a.most a.log.now a.n at.at others (omega arith)
     (to_taken a.most a.log.now a.n at.at (at.at - others) c.to_word.result c.in-Taken-to_word.field-0 c.in-Taken-to_word.field-1 at.invariant.0 at.invariant.1
     c.to_word.ensures c.in-Taken-to_word.field-2 c.in-Taken-to_word.is) in
     let test = c.to_before_last in

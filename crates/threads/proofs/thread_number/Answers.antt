@@ -1,4 +1,4 @@
--- `report::thread_number` meets its contract: on each way out the tests have found what its number says.
+-- `threads::thread_number` meets its contract: on each way out the tests have found what its number says.
 -- Assumes nothing.
 use native.Mathlib.Omega.{arith}
 use Rattle.threads.proofs.ThreadCalls.{no_thread, a_thread}

@@ -1,4 +1,4 @@
--- `report::thread_stretch` meets its contract: the stretch is the steps of the thread that is there.
+-- `threads::thread_stretch` meets its contract: the stretch is the steps of the thread that is there.
 -- Assumes nothing.
 use native.Mathlib.Omega.{arith}
 use Rattle.parsing.proofs.Wholes.{Room, thread_room}

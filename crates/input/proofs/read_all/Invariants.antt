@@ -1,7 +1,7 @@
 -- The count is within the buffer, and what stands before it is what the reader gave.
 use Rattle.std.proofs.Common.{◌-◌, ◌≤◌, length, take}
 use Rattle.std.specs.Io.KnownBytes.{Consumes}
-use Rattle.trials.proofs.stdin.read_all.Given as goal
+use Rattle.input.proofs.read_all.Given as goal
 
 abbrev pub invariant-loop-done : goal.invariant-loop-done
 invariant-loop-done g l = (l.done ≤ length l.buffer)
