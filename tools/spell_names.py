@@ -5,8 +5,8 @@ usage: tools/spell_names.py FOLDER      the repository as port.py left it; files
 
 Run once, behind port.py. A declared name (a definition, a lemma, a field or a constructor) that begins with a small letter and has a dash or
 a capital gets plain underscores: `reportNeed` is `report_need`, `heard-count` is `heard_count`; a lemma that would then have a definition's name
-ends in `_lem`. Types, modules, names of a library, the labels that the check makes for a function's goals and Rust's functions stay. The kit has a library `log`, so the crate of that name
-is called `logs`.
+ends in `_lem`. Types, modules, names of a library, the labels that the check makes for a function's goals and Rust's functions stay. The kit
+has a library `log`, so the crate of that name is called `logs`.
 """
 import os
 import re
@@ -21,7 +21,7 @@ FIELDS = ("link-count", "behind-head")
 RENAMED = {"is-from": "kind_from", "is-to": "kind_to"}
 # Two lemmas whose plain spelling is that of the definition `toWord`, by the files that name them.
 INSTEAD = {"to_word": "to_word_below", "from-word": "from_word_below"}
-NAMED_IN = ("crates/log/proofs/Laws.antt", "crates/log/proofs/Walk.antt", "crates/reach/proofs/Marks.antt", "crates/copying/proofs/GroupLinks.antt")
+NAMED_IN = ("crates/log/proofs/Laws.antt", "crates/log/proofs/Walk.antt")
 
 
 def snake(name):
@@ -85,7 +85,7 @@ def declared(root):
         if new in met:
             print(f"meets: {old} and {met[new]} -> {new}")
         met[new] = old
-    return turned, found
+    return turned
 
 
 def turn(text, table, skip, made=r"(?!)"):
@@ -102,7 +102,7 @@ def turn(text, table, skip, made=r"(?!)"):
 
 
 def clauses(text, table, skip):
-    """Turns a Rust text: the `ghost use` lines, the clauses, and the code spans of comments."""
+    """Turns a Rust text: the `ghost use` lines and the clauses."""
     spans = []
     for m in re.finditer(r"(?m)^ *ghost use [^;]*;", text):
         spans.append((m.start(), m.end()))
@@ -140,7 +140,7 @@ def crate_log(root):
 def main(root):
     global CRATES
     CRATES = set(os.listdir(os.path.join(root, "crates")))
-    table, found = declared(root)
+    table = declared(root)
     for path in texts(os.path.join(root, "crates"), ".antt", ".rt"):
         text = read(path)
         library, ours = imported(text if path.endswith(".rt") else code(text))
