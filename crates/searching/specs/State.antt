@@ -1,5 +1,5 @@
 -- The tables of the search in the work words, and what each of its functions leaves there.
-use Rattle.std.specs.Prelude.{◌≡◌, List, ℕ, ◌+◌, ◌-◌, ◌*◌, ◌≤◌, ◌<◌, length, get_or}
+use Rattle.std.specs.Prelude.{◌≡◌, Option, Some, None, List, ℕ, ◌+◌, ◌-◌, ◌*◌, ◌≤◌, ◌<◌, length, get_or}
 use Rattle.bits.specs.Bits.{bit}
 use Rattle.bits.specs.Work.{next_at, prev_at, via_at, queue_at, seen_at, dead_at, used_words, Outside, none_at, matrix_words}
 use Rattle.searching.specs.Items.{Tables, Matching, Dead, Searching, Saw, Trail, Flipping, Flipped}
@@ -14,6 +14,11 @@ tables w =
       queue = λ p. get_or w (queue_at + p) 0;
       seen = λ b. bit w seen_at b;
     }
+
+-- the word of a table that names an item, or none
+abbrev pub figure : Option ℕ → ℕ
+figure (Some x) = x + 1
+figure None = 0
 
 -- what is dead, in the work words
 abbrev pub deads : List ℕ → ℕ → ℕ

@@ -1,9 +1,9 @@
 // Chains of items in the work words, and an augmenting search from the end of one of them.
 #![tactic(auto)]
 
-ghost use Rattle.std.specs.Prelude.{◌≡◌, ◌<◌, ◌≤◌, length};
+ghost use Rattle.std.specs.Prelude.{◌≡◌, ◌<◌, ◌≤◌, length, get_or};
 ghost use Rattle.bits.specs.Work.{used_words};
-ghost use Rattle.searching.specs.State.{tables, ForgottenIn, PutIn, SawIn, ShowAsked, ShownIn, SearchedIn, FlipAsked, FlippedIn, Extendable};
+ghost use Rattle.searching.specs.State.{tables, figure, ForgottenIn, PutIn, SawIn, ShowAsked, ShownIn, SearchedIn, FlipAsked, FlippedIn, Extendable};
 
 use bits::{NEXT, NONE, PREV, QUEUE, SEEN, VIA};
 
@@ -24,6 +24,30 @@ pub fn put_behind(w: &mut [u32], a: usize, b: usize)
 {
     w[NEXT + a] = (b + 1) as u32;
     w[PREV + b] = (a + 1) as u32;
+}
+
+// The item that the word at `place` of a table names: the word is the item plus one, or 0 for none.
+fn item_at(w: &[u32], place: usize) -> Option<usize>
+    requires { place < length w.now }
+    ensures { figure result ≡ get_or w.now place 0 }
+{
+    (w[place] as usize).checked_sub(1)
+}
+
+// The item behind `a` on its chain.
+pub fn next_of(w: &[u32], a: usize) -> Option<usize>
+    requires { (used_words ≤ length w.now) × (a < 256) }
+    ensures { figure result ≡ (tables w.now).next a }
+{
+    item_at(w, NEXT + a)
+}
+
+// The item before `b` on its chain.
+pub fn previous_of(w: &[u32], b: usize) -> Option<usize>
+    requires { (used_words ≤ length w.now) × (b < 256) }
+    ensures { figure result ≡ (tables w.now).prev b }
+{
+    item_at(w, PREV + b)
 }
 
 // Marks `b` as seen from the place `head`; the item before it, if there is one, goes into the queue at `tail`.
