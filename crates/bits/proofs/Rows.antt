@@ -11,7 +11,7 @@ use lib.Seq.{get_or-set_same, get_or-set_other}
 use lib.Pow.{pow_mono}
 use lib.Bits.{bit_or, bit_xor, differ, or_lt, xor_lt}
 use lib.Count.{count_trailing_zeros}
-use Rattle.bits.specs.Bits.{digit, bit, BitSet, RowJoined, RowAdded, RowGained, RowCopied, FirstBit, NextNew}
+use Rattle.bits.specs.Bits.{digit, bit, BitSet, RowAdded, FirstBit, NextNew}
 use Rattle.bits.proofs.Digits.{mask, digit_lt, digit_or, digit_xor, digit_shr, digit_one, digit_other, digit_trailing, digit_below, digit_none}
 
 pub bit_lt : (w : List ℕ) (row b : ℕ) → bit w row b < 2
@@ -115,29 +115,8 @@ module _ {w v v' : List ℕ} {to from i : ℕ} (s : Joining w v v' to from i) wh
   unfolding bit
   joined_bit e b l = ap (λ (x : ℕ). digit x (b % 32)) (s.done (b / 32) (omega arith)) ∙ digit_or _ _ (b % 32)
 
--- both rows in one matrix
-pub row_joined : {w w' : List ℕ} {to from i : ℕ} → Joining w w w' to from i → i ≡ 8 → (base a k : ℕ) → to ≡ base + 8 * a → from ≡ base + 8 * k
-    → RowJoined w w' base a k
-row_joined {w} {w'} {i = i} s e base a k p q =
-    let r : Joining w w w' (base + 8 * a) (base + 8 * k) i = rw (p, q) at s in
-    record { same_length = r.same_length; before = r.before; behind = λ j h. r.behind j (omega arith); joined = joined_bit r e }
-
--- a row by itself, which starts at word 0: a row of a matrix is joined into it
-module _ {w v v' : List ℕ} {row i : ℕ} (s : Joining w v v' 0 row i) where
-  pub adding_more : i < length v → Joining w v (set v' i (bit_or (get_or v' i 0) (get_or w (row + i) 0))) 0 row (i + 1)
-  adding_more fits = let e : 0 + i ≡ i = omega arith in rw e at (joining_more s (get_or w (row + i) 0) refl (omega arith))
-
-  pub row_added : i ≡ 8 → RowAdded w row v v'
-  row_added e = record { same_length = s.same_length; joined = joined_bit s e }
-
--- or it is joined into a row of a matrix
-module _ {v w w' : List ℕ} {row i : ℕ} (s : Joining v w w' row 0 i) where
-  pub gaining_more : row + i < length w → Joining v w (set w' (row + i) (bit_or (get_or w' (row + i) 0) (get_or v i 0))) row 0 (i + 1)
-  gaining_more fits = let e : 0 + i ≡ i = omega arith in joining_more s (get_or v i 0) (rw e refl) fits
-
-  pub row_gained : i ≡ 8 → RowGained v w w' row
-  row_gained e =
-      record { same_length = s.same_length; before = s.before; behind = λ j h. s.behind j (omega arith); joined = joined_bit s e }
+pub row_added : {w v v' : List ℕ} {row i : ℕ} → Joining w v v' 0 row i → i ≡ 8 → RowAdded w row v v'
+row_added s e = record { same_length = s.same_length; joined = joined_bit s e }
 
 -- ---- the first bit
 
@@ -176,51 +155,6 @@ module _ (w : List ℕ) (row i : ℕ) (none : NoneBefore w row i) where
       go : Dec (c < 32 * i) → bit w row c ≡ 0
       go (yes q) = none c q
       go (no q) = let e : c / 32 ≡ i = omega arith in bits_zero w row c (rw e z)
-
--- ---- words copied
-
--- the first `i` words from `to` on are those from `from` on
-pub record Copying (w w' : List ℕ) (to from i : ℕ) : Type 0 where
-  pub same_length : length w' ≡ length w
-  pub done : (j : ℕ) → j < i → get_or w' (to + j) 0 ≡ get_or w (from + j) 0
-  pub before : (j : ℕ) → j < to → get_or w' j 0 ≡ get_or w j 0
-  pub behind : (j : ℕ) → to + i ≤ j → get_or w' j 0 ≡ get_or w j 0
-
-pub copying_none : (w : List ℕ) (to from : ℕ) → Copying w w to from 0
-copying_none w to from =
-    record { same_length = refl; done = λ j l. absurd (omega arith); before = λ j l. refl; behind = λ j l. refl }
-
--- one more of `n`, which are to stand `n` words away or further
-pub copying_more : (w w' : List ℕ) (to from n i : ℕ) → n ≤ (to - from) + (from - to) → i < n → to + i < length w
-    → Copying w w' to from i → Copying w (set w' (to + i) (get_or w' (from + i) 0)) to from (i + 1)
-copying_more w w' to from n i apart h fits s =
-    record {
-      same_length = length-set w' (to + i) x ∙ s.same_length;
-      done = λ j l. done j l (ℕ_discrete j i);
-      before = λ j l. get_or-set_other w' (to + i) j x 0 (λ e. absurd (omega arith)) ∙ s.before j l;
-      behind = λ j l. get_or-set_other w' (to + i) j x 0 (λ e. absurd (omega arith)) ∙ s.behind j (omega arith);
-    }
-  where
-    x : ℕ
-    x = get_or w' (from + i) 0
-
-    source : Dec (from + i < to) → get_or w' (from + i) 0 ≡ get_or w (from + i) 0
-    source (yes l) = s.before (from + i) l
-    source (no l) = s.behind (from + i) (omega arith)
-
-    done : (j : ℕ) → j < i + 1 → Dec (j ≡ i) → get_or (set w' (to + i) x) (to + j) 0 ≡ get_or w (from + j) 0
-    done j l (yes e) = rw e (get_or-set_same w' (to + i) x 0 (rw s.same_length fits) ∙ source (dec_lt (from + i) to))
-    done j l (no ne) = get_or-set_other w' (to + i) (to + j) x 0 (λ e. ne (omega arith)) ∙ s.done j (omega arith)
-
-pub row_copied : (w w' : List ℕ) (to from i : ℕ) → i ≡ 8 → Copying w w' to from i → RowCopied w w' to from
-unfolding bit
-row_copied w w' to from i e s =
-    record {
-      same_length = s.same_length;
-      before = s.before;
-      behind = λ j h. s.behind j (omega arith);
-      copied = λ b l. ap (λ (x : ℕ). digit x (b % 32)) (s.done (b / 32) (omega arith));
-    }
 
 -- ---- the first new bit
 

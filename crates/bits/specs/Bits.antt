@@ -1,5 +1,5 @@
 -- Rows of bits in a list of 32-bit words: 8 words to a row, 32 bits to a word, the lowest first.
-use Rattle.std.specs.Prelude.{◌≡◌, ◌≢◌, List, ℕ, zero, suc, ◌+◌, ◌*◌, ◌/◌, ◌%◌, ◌^◌, ◌≤◌, ◌<◌, max, length, get_or}
+use Rattle.std.specs.Prelude.{◌≡◌, Option, Some, None, ◌≢◌, List, ℕ, zero, suc, ◌+◌, ◌*◌, ◌/◌, ◌%◌, ◌^◌, ◌≤◌, ◌<◌, max, length, get_or}
 
 -- digit `i` of `x`, in binary
 abbrev pub digit : ℕ → ℕ → ℕ
@@ -35,6 +35,11 @@ pub record RowGained (v w w' : List ℕ) (row : ℕ) : Type 0 where
   pub behind : (i : ℕ) → row + 8 ≤ i → get_or w' i 0 ≡ get_or w i 0
   pub joined : (b : ℕ) → b < 256 → bit w' row b ≡ max (bit w row b) (bit v 0 b)
 
+-- `v` is the row of `w` that starts at word `row`, by itself
+pub record RowTaken (w : List ℕ) (row : ℕ) (v : List ℕ) : Type 0 where
+  pub eight : length v ≡ 8
+  pub taken : (b : ℕ) → b < 256 → bit v 0 b ≡ bit w row b
+
 -- `r` is the first bit of the row at `row`, or 256
 pub record FirstBit (w : List ℕ) (row r : ℕ) : Type 0 where
   pub at_most : r ≤ 256
@@ -54,6 +59,11 @@ pub record NextNew (w : List ℕ) (row seen from r : ℕ) : Type 0 where
   pub at_most : r ≤ 256
   pub new : r < 256 → (bit w row r ≡ 1) × (bit w seen r ≡ 0)
   pub passed : (c : ℕ) → from ≤ c → c < r → bit w row c ≡ 1 → bit w seen c ≡ 1
+
+-- the place that is found, or 256 where there is none
+abbrev pub place_or_end : Option ℕ → ℕ
+place_or_end (Some b) = b
+place_or_end None = 256
 
 -- the sum of f 0 .. f (k - 1)
 unfoldable pub sum : (ℕ → ℕ) → ℕ → ℕ

@@ -1,22 +1,8 @@
 use Prim.Native.Nat.{◌+◌, ◌/◌}
 use native.Mathlib.Omega.{arith}
-use lib.Count.{count_trailing_zeros, trailing_le}
-use Rattle.bits.proofs.Rows.{new_in, first_new, none_then_first, none_then_none, none_at_all}
+use lib.Count.{count_trailing_zeros}
+use Rattle.bits.proofs.Rows.{new_in, first_new, none_then_first, none_then_none}
 use Rattle.bits.proofs.next_new.Goals as goal
-
-pub loop-at-init : goal.loop-at-init
-loop-at-init c = record { at_least = omega arith; at_most = omega arith; passed = λ b lo hi. absurd (omega arith) }
-
-pub overflow_cast-result : goal.overflow_cast-result
-overflow_cast-result c =
-    let a = c.args in
-    omega (arith, trailing_le 32 (new_in a.w.now a.row a.seen c.loop-at.at))
-
-pub overflow_add-result : goal.overflow_add-result
-overflow_add-result c =
-    let a = c.args in
-    let at = c.loop-at in
-    omega (arith, trailing_le 32 (new_in a.w.now a.row a.seen at.at), at.invariant.at_most)
 
 pub returns-then-new-ne0 : goal.returns-then-new-ne0
 returns-then-new-ne0 c =
@@ -33,9 +19,3 @@ loop-at-preserved c =
     let a = c.args in
     let at = c.loop-at in
     none_then_none a.w.now a.row a.seen a.from at.at at.invariant (omega arith) (omega arith)
-
-pub returns : goal.returns
-returns c =
-    let a = c.args in
-    let at = c.loop-at in
-    none_at_all a.w.now a.row a.seen a.from at.at at.invariant (omega arith)
