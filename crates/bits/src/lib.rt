@@ -1,7 +1,7 @@
 // Rows of bits in lent words: 8 words, 256 bits, to a row.
 #![tactic(auto)]
 
-ghost use Rattle.std.specs.Prelude.{◌≡◌, ℕ, ◌+◌, ◌-◌, ◌*◌, ◌/◌, ◌<◌, ◌≤◌, eqb, length, get_or, replicate};
+ghost use Rattle.std.specs.Prelude.{◌≡◌, ℕ, ◌+◌, ◌*◌, ◌/◌, ◌<◌, ◌≤◌, eqb, length, get_or, replicate};
 ghost use Rattle.bits.specs.Bits.{digit, bit, BitSet, RowJoined, RowAdded, RowGained, RowTaken, RowCopied, FirstBit, NextNew, place_or_end};
 
 // The regions of the work words: the links and the ways, each a row of bits for each episode; the tables of the search, 256 words each;
@@ -86,17 +86,17 @@ pub fn row_at(w: &[u32], row: usize) -> [u32; 8]
     words
 }
 
-// Joins the row that starts at word `from` into the one that starts at word `to`, which is not behind it.
+// Joins the row that starts at word `from` into the one that starts at word `to`.
 pub fn join_row(w: &mut [u32], to: usize, from: usize)
-    requires { (to ≤ from) × (from + 8 ≤ length w.old) }
+    requires { (to + 8 ≤ length w.old) × (from + 8 ≤ length w.old) }
     ensures { (base a k : ℕ) → to ≡ base + 8 * a → from ≡ base + 8 * k → RowJoined w.old w.new base a k }
 {
     join_from(&row_at(w, from), w, to);
 }
 
-// Copies the row that starts at word `from` to the one that starts at word `to`, at least 8 words away.
+// Copies the row that starts at word `from` to the one that starts at word `to`.
 pub fn copy_row(w: &mut [u32], to: usize, from: usize)
-    requires { (to + 8 ≤ length w.old) × (from + 8 ≤ length w.old) × (8 ≤ (to - from) + (from - to)) }
+    requires { (to + 8 ≤ length w.old) × (from + 8 ≤ length w.old) }
     ensures { RowCopied w.old w.new to from }
 {
     let row = row_at(w, from);
