@@ -222,22 +222,29 @@ module _ (w : List ℕ) (row seen at : ℕ) where
       lt_of_le_of_lt (div-le_self _ (2 ^ (at % 32))) (xor_lt 32 _ _ (or_lt 32 _ _ h k) k)
 
   -- from the bit `at` on, in its word: the first new bit
-  pub first_new : get_or w (row + at / 32) 0 < 2 ^ 32 → get_or w (seen + at / 32) 0 < 2 ^ 32 → at < 256 → 0 < new_in
-      → NextNew w row seen at (at + count_trailing_zeros 32 new_in)
-  first_new h k l p =
-      let t : ℕ = count_trailing_zeros 32 new_in in
-      let (below, one) = digit_trailing 32 new_in (new_lt h k) p in
-      let within : at % 32 + t < 32 =
-      one_below (fresh (get_or w (row + at / 32) 0) (get_or w (seen + at / 32) 0)) 32 (at % 32 + t)
-      (xor_lt 32 _ _ (or_lt 32 _ _ h k) k) (sym (digit_shr _ (at % 32) t) ∙ one) in
-      record {
-        at_least = omega arith;
-        at_most = omega arith;
-        new = λ q. new_found t within one;
-        passed = λ c lo hi.
-            let e : at + (c - at) ≡ c = omega arith in
-            rw e at (new_none (c - at) (omega arith) (digit_below 32 new_in (c - at) (omega arith)));
-      }
+  module _ (h : get_or w (row + at / 32) 0 < 2 ^ 32) (k : get_or w (seen + at / 32) 0 < 2 ^ 32) (p : 0 < new_in) where
+    new_within : at % 32 + count_trailing_zeros 32 new_in < 32
+    new_within =
+        let t : ℕ = count_trailing_zeros 32 new_in in
+        let (below, one) = digit_trailing 32 new_in (new_lt h k) p in
+        one_below (fresh (get_or w (row + at / 32) 0) (get_or w (seen + at / 32) 0)) 32 (at % 32 + t) (xor_lt 32 _ _ (or_lt 32 _ _ h k) k)
+        (sym (digit_shr _ (at % 32) t) ∙ one)
+
+    pub new_below : at < 256 → at + count_trailing_zeros 32 new_in < 256
+    new_below l = omega (arith, new_within)
+
+    pub first_new : at < 256 → NextNew w row seen at (at + count_trailing_zeros 32 new_in)
+    first_new l =
+        let t : ℕ = count_trailing_zeros 32 new_in in
+        let (below, one) = digit_trailing 32 new_in (new_lt h k) p in
+        record {
+          at_least = omega arith;
+          at_most = omega (arith, new_below l);
+          new = λ q. new_found t new_within one;
+          passed = λ c lo hi.
+              let e : at + (c - at) ≡ c = omega arith in
+              rw e at (new_none (c - at) (omega (arith, new_within)) (digit_below 32 new_in (c - at) (omega arith)));
+        }
 
   -- or none
   word_passed : new_in ≡ 0 → (c : ℕ) → at ≤ c → c < (at / 32 + 1) * 32 → bit w row c ≡ 1 → bit w seen c ≡ 1

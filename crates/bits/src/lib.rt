@@ -1,7 +1,7 @@
 // Rows of bits in lent words: 8 words, 256 bits, to a row.
 #![tactic(auto)]
 
-ghost use Rattle.std.specs.Prelude.{◌≡◌, ℕ, ◌+◌, ◌*◌, ◌/◌, ◌<◌, ◌≤◌, eqb, length, get_or, replicate};
+ghost use Rattle.std.specs.Prelude.{◌≡◌, ℕ, ◌+◌, ◌*◌, ◌/◌, ◌<◌, ◌≤◌, IfSome, eqb, length, get_or, replicate};
 ghost use Rattle.bits.specs.Bits.{digit, bit, BitSet, RowJoined, RowAdded, RowGained, RowTaken, RowCopied, FirstBit, NextNew, place_or_end};
 
 // The regions of the work words: the links and the ways, each a row of bits for each episode; the tables of the search, 256 words each;
@@ -106,7 +106,8 @@ pub fn copy_row(w: &mut [u32], to: usize, from: usize)
 // The first bit of the row that starts at word `row`.
 pub fn first_bit(w: &[u32], row: usize) -> Option<usize>
     requires { row + 8 ≤ length w.now }
-    ensures { FirstBit w.now row (place_or_end result) }
+    ensures first { FirstBit w.now row (place_or_end result) }
+    ensures below { IfSome result (λ b. b < 256) }
 {
     for word in 0..8 {
         let x = w[row + word];
@@ -120,7 +121,8 @@ pub fn first_bit(w: &[u32], row: usize) -> Option<usize>
 // The first bit from `from` on that the row at `row` has and the row at `seen` has not.
 pub fn next_new(w: &[u32], row: usize, seen: usize, from: usize) -> Option<usize>
     requires { (row + 8 ≤ length w.now) × (seen + 8 ≤ length w.now) × (from ≤ 256) }
-    ensures { NextNew w.now row seen from (place_or_end result) }
+    ensures first { NextNew w.now row seen from (place_or_end result) }
+    ensures below { IfSome result (λ b. b < 256) }
 {
     let mut at = from;
     while at < 256 {
