@@ -10,7 +10,10 @@ use lib.ListN.{length, get_or, set}
 use lib.Seq.{get_or-set_same, get_or-set_other}
 use Rattle.paths.specs.Graph.{Graph, EndsBelow, Link, Way, one, step}
 use Rattle.paths.proofs.Ways.{way_trans, way_first}
-use Rattle.bits.specs.Bits.{bit, BitSet, RowJoined, FirstBit, NextNew}
+use Rattle.std.specs.Prelude.{Option, Some, None, IfSome}
+use Rattle.std.specs.Option.{is_some}
+use mathlib.Core.Bool.{true, true≢false}
+use Rattle.bits.specs.Bits.{bit, BitSet, RowJoined, FirstBit, NextNew, place_or_end}
 use Rattle.bits.specs.Work.{links_at, ways_at, Matrix, Outside, next_at}
 use Rattle.bits.proofs.Rows.{bit_lt, bits_zero, fresh, fresh_one, bit_fresh}
 use Rattle.bits.proofs.Frames.{outside_none, outside_more, outside_then, outside_wider, set_outside, joined_outside}
@@ -130,41 +133,50 @@ pub record Above (g : Graph) (w : List ℕ) (a : ℕ) : Type 0 where
   pub sound : (x y : ℕ) → a < x → x < 256 → y < 256 → bit w (ways_at + 8 * x) y ≡ 1 → Way g x y
   pub complete : (x y : ℕ) → a < x → x < 256 → y < 256 → Way g x y → bit w (ways_at + 8 * x) y ≡ 1
 
--- After the links of `a` below `b`, and `b` is its next link, above `a`, or 256.
+-- After the links of `a` below `b`.
 pub record InRow (w w' : List ℕ) (a b : ℕ) : Type 0 where
   pub outside : Outside (ways_at + 8 * a) (ways_at + 8 * a + 8) w w'
   pub at_least : a < b
   pub at_most : b ≤ 256
-  pub next : b < 256 → bit w (links_at + 8 * a) b ≡ 1
   pub ways : (g : Graph) → LinksRise g → Matrix links_at w (Link g) → Above g w a → Reaching g (λ c. bit w (ways_at + 8 * a) c ≡ 1) a 0
       → Reaching g (λ c. bit w' (ways_at + 8 * a) c ≡ 1) a b
 
-pub row_start : (w : List ℕ) (a b : ℕ) → a < 256 → NextNew w (links_at + 8 * a) (ways_at + 8 * a) (a + 1) b → InRow w w a b
-row_start w a b ha n =
+pub row_start : (w : List ℕ) (a : ℕ) → a < 256 → InRow w w a (a + 1)
+row_start w a ha =
     record {
       outside = outside_none (ways_at + 8 * a) (ways_at + 8 * a + 8) w;
-      at_least = omega (arith, n.at_least);
-      at_most = n.at_most;
-      next = λ h. (n.new h).0;
+      at_least = omega arith;
+      at_most = omega arith;
       ways = λ g rise l m r.
-          record {
-            sound = r.sound;
-            links = λ c h hc k. n.passed c (omega (arith, (rise a c k).0)) h (l.complete a c ha hc k);
-            closed = r.closed;
-          };
+          record { sound = r.sound; links = λ c h hc k. absurd (omega (arith, (rise a c k).0)); closed = r.closed };
     }
 
+-- up to the next link that is not in the row, which stays as it is
+pub row_next : {w w' : List ℕ} {a b b' : ℕ} → a < 256 → InRow w w' a b → NextNew w' (links_at + 8 * a) (ways_at + 8 * a) b b' → InRow w w' a b'
+row_next {w} {w'} {a} {b} {b'} ha s n =
+    record {
+      outside = s.outside;
+      at_least = omega (arith, s.at_least, n.at_least);
+      at_most = n.at_most;
+      ways = λ g rise l m r.
+          let t = s.ways g rise l m r in
+          record { sound = t.sound; links = λ c h hc k. links g l t c h hc k (dec_lt c b); closed = t.closed };
+    }
+  where
+    links : (g : Graph) → Matrix links_at w (Link g) → Reaching g (λ c. bit w' (ways_at + 8 * a) c ≡ 1) a b → (c : ℕ) → c < b' → c < 256 → Link g a c
+        → Dec (c < b) → bit w' (ways_at + 8 * a) c ≡ 1
+    links g l t c h hc k (yes q) = t.links c q hc k
+    links g l t c h hc k (no q) =
+        n.passed c (omega arith) h (rw (bit_before s.outside (links_at + 8 * a) c (omega arith) hc) (l.complete a c ha hc k))
+
 -- `b` is set in row `a`, and its ways are joined
-module _ {w w' v u : List ℕ} {a b b' : ℕ} (ha : a < 256) (hb : b < 256) (s : InRow w w' a b) (p : BitSet w' v (ways_at + 8 * a) b)
-    (q : RowJoined v u ways_at a b) (n : NextNew u (links_at + 8 * a) (ways_at + 8 * a) (b + 1) b') where
+module _ {w w' v u : List ℕ} {a b : ℕ} (ha : a < 256) (hb : b < 256) (s : InRow w w' a b) (new : bit w' (links_at + 8 * a) b ≡ 1)
+    (p : BitSet w' v (ways_at + 8 * a) b) (q : RowJoined v u ways_at a b) where
   still : Outside (ways_at + 8 * a) (ways_at + 8 * a + 8) w v
   still = outside_then s.outside (set_outside (ways_at + 8 * a) b hb p)
 
   all_still : Outside (ways_at + 8 * a) (ways_at + 8 * a + 8) w u
   all_still = outside_then still (joined_outside q)
-
-  links_still : (c : ℕ) → c < 256 → bit u (links_at + 8 * a) c ≡ bit w (links_at + 8 * a) c
-  links_still c hc = bit_before all_still (links_at + 8 * a) c (omega arith) hc
 
   row_joins : (g : Graph) → a < b → Above g w a
       → Joined g (λ c. bit w' (ways_at + 8 * a) c ≡ 1) (λ c. bit u (ways_at + 8 * a) c ≡ 1) b
@@ -205,17 +217,15 @@ module _ {w w' v u : List ℕ} {a b b' : ℕ} (ha : a < 256) (hb : b < 256) (s :
           let l' : bit v (ways_at + 8 * b) c < 2 = bit_lt v (ways_at + 8 * b) c in
           inr (inr (m.sound b c up hb hc (omega (arith, nf))))
 
-  pub row_on : InRow w u a b'
+  pub row_on : InRow w u a (b + 1)
   row_on =
       record {
         outside = all_still;
-        at_least = omega (arith, n.at_least);
-        at_most = n.at_most;
-        next = λ h. rw (links_still b' h) at (n.new h).0;
+        at_least = omega (arith, s.at_least);
+        at_most = omega arith;
         ways = λ g rise l m r.
-            let k : Link g a b = l.sound a b ha hb (s.next hb) in
-            reaching_on b' (s.ways g rise l m r) k (row_joins g (rise a b k).0 m)
-            (λ c lo hi hc i. n.passed c (omega arith) hi (rw (links_still c hc) (l.complete a c ha hc i)));
+            let k : Link g a b = l.sound a b ha hb (rw (bit_before s.outside (links_at + 8 * a) b (omega arith) hb) at new) in
+            reaching_on (b + 1) (s.ways g rise l m r) k (row_joins g (rise a b k).0 m) (λ c lo hi. absurd (omega arith));
       }
 
 -- `v` is `w` with the links of `a` to ends, those that are not in `linked`
@@ -275,25 +285,16 @@ module _ {w v w' linked : List ℕ} {a b : ℕ} (ha : a < 256) (t : EndsTaken w 
 -- ---- all rows
 
 -- `a` has a link
-pub noted_link : (w : List ℕ) (a r : ℕ) (linked linked' : List ℕ) → FirstBit w (links_at + 8 * a) r → r < 256 → BitSet linked linked' 0 a
-    → LinkNoted w a linked linked'
-noted_link w a r linked linked' f h s =
+pub noted_link : (w : List ℕ) (a : ℕ) (linked linked' : List ℕ) (r : Option ℕ) → FirstBit w (links_at + 8 * a) (place_or_end r)
+    → IfSome r (λ b. b < 256) → true ≡ is_some r → BitSet linked linked' 0 a → LinkNoted w a linked linked'
+noted_link w a linked linked' (Some r) f h e s =
     record {
       same_length = s.same_length;
       here = λ b hb o. s.here;
       none = λ z. absurd (omega (arith, f.here h, z r h));
       others = s.others;
     }
-
--- `a` has none
-pub noted_none : (w : List ℕ) (a r : ℕ) (linked : List ℕ) → FirstBit w (links_at + 8 * a) r → 256 ≤ r → LinkNoted w a linked linked
-noted_none w a r linked f h =
-    record {
-      same_length = refl;
-      here = λ b hb o. absurd (omega (arith, f.none b (omega arith)));
-      none = λ z. refl;
-      others = λ c ne. refl;
-    }
+noted_link w a linked linked' None f h e s = absurd (true≢false e)
 
 -- After the rows from `a` on.
 pub record InRising (w w' linked : List ℕ) (n a : ℕ) : Type 0 where

@@ -12,12 +12,12 @@ pub fn rises(w: &[u32], n: usize) -> bool
     requires { (next_at ≤ length w.now) × (n ≤ 256) }
     ensures { RiseTest w.now n result }
 {
-    let mut a = 0;
-    while a < n {
-        if bits::first_bit(w, LINKS + 8 * a) <= a {
+    for a in 0..n {
+        if let Some(b) = bits::first_bit(w, LINKS + 8 * a)
+            && b <= a
+        {
             return false;
         }
-        a += 1;
     }
     true
 }
@@ -28,11 +28,8 @@ fn take_ends(w: &mut [u32], links: usize, ways: usize, linked: &[u32])
     ensures { (a : ℕ) → links ≡ links_at + 8 * a → ways ≡ ways_at + 8 * a
         → EndsTaken w.old w.new a linked.now }
 {
-    let mut i = 0;
-    while i < 8 {
-        let old = linked[i];
-        w[ways + i] = (w[links + i] | old) ^ old;
-        i += 1;
+    for (i, old) in linked.iter().enumerate() {
+        w[ways + i] = (w[links + i] | *old) ^ *old;
     }
 }
 
@@ -45,11 +42,11 @@ fn reach_row(w: &mut [u32], a: usize, linked: &[u32])
     let links = LINKS + 8 * a;
     let ways = WAYS + 8 * a;
     take_ends(w, links, ways, linked);
-    let mut b = bits::next_new(w, links, ways, a + 1);
-    while b < 256 {
+    let mut from = a + 1;
+    while let Some(b) = bits::next_new(w, links, ways, from) {
         bits::set_bit(w, ways, b);
         bits::join_row(w, ways, WAYS + 8 * b);
-        b = bits::next_new(w, links, ways, b + 1);
+        from = b + 1;
     }
 }
 
@@ -58,7 +55,7 @@ fn note_linked(w: &[u32], a: usize, linked: &mut [u32])
     requires { (next_at ≤ length w.now) × (a < 256) × (length linked.old ≡ 8) }
     ensures { LinkNoted w.now a linked.old linked.new }
 {
-    if bits::first_bit(w, LINKS + 8 * a) < 256 {
+    if bits::first_bit(w, LINKS + 8 * a).is_some() {
         bits::set_bit(linked, 0, a);
     }
 }
@@ -68,10 +65,8 @@ pub fn reach_rising(w: &mut [u32], n: usize)
     requires { (next_at ≤ length w.old) × (n ≤ 256) × NoWays w.old }
     ensures { RisingReached w.old w.new n }
 {
-    let mut linked = [0u32; 8];
-    let mut a = n;
-    while 0 < a {
-        a -= 1;
+    let mut linked = [0; 8];
+    for a in (0..n).rev() {
         reach_row(w, a, &linked);
         note_linked(w, a, &mut linked);
     }

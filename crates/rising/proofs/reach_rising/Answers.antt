@@ -1,7 +1,7 @@
 use mathlib.Core.Path.{refl}
 use Prim.Native.Nat.{◌-◌}
 use native.Mathlib.Omega.{arith}
-use Rattle.rising.proofs.Rising.{rising_start, rising_row, rising_end}
+use Rattle.rising.proofs.Rising.{rising_start, rising_row}
 use Rattle.rising.proofs.reach_rising.Goals as goal
 
 pub loop-a-init : goal.loop-a-init
@@ -12,9 +12,3 @@ loop-a-preserved c =
     let a = c.args in
     rising_row a.w.now c.loop-a.w c.reach_row.new.w c.loop-a.linked c.note_linked.new.linked a.n c.loop-a.a
     (c.loop-a.a - 1) (omega arith) (omega arith) c.loop-a.invariant c.reach_row.ensures c.note_linked.ensures
-
-pub returns : goal.returns
-returns c =
-    let a = c.args in
-    let at = c.loop-a in
-    rising_end a.w.now at.w at.linked a.n at.a (omega arith) at.invariant

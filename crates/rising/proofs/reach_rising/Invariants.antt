@@ -6,6 +6,3 @@ use Rattle.rising.proofs.reach_rising.Given as goal
 
 abbrev pub invariant-loop-a : goal.invariant-loop-a
 invariant-loop-a l = InRising l.initial.w l.w l.linked l.n l.a
-
-abbrev pub decreases-loop-a : goal.decreases-loop-a
-decreases-loop-a l = l.a

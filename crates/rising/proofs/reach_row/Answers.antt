@@ -1,19 +1,26 @@
 use mathlib.Core.Path.{refl}
 use native.Mathlib.Omega.{arith}
 use Rattle.bits.specs.Work.{ways_at}
-use Rattle.rising.proofs.Rising.{row_start, row_on, row_end}
+use Rattle.rising.proofs.Rising.{row_next, row_on, row_end}
 use Rattle.rising.proofs.reach_row.Goals as goal
 
-pub loop-b-init : goal.loop-b-init
-loop-b-init c = row_start c.take_ends.new.w c.args.a c.next_new-b.result c.requires.1 c.next_new-b.ensures
+pub set_bit-requires : goal.set_bit-requires
+set_bit-requires c = omega (arith, c.in-Some.ensures.below)
+
+pub join_row-requires : goal.join_row-requires
+join_row-requires c = omega (arith, c.set_bit.ensures.same_length, c.in-Some.ensures.below)
 
 pub loop-b-smaller : goal.loop-b-smaller
-loop-b-smaller c = omega (arith, c.next_new-b-in-loop-b.ensures.at_least)
+loop-b-smaller c = let n = c.in-Some.ensures.first in omega (arith, n.at_least, c.in-Some.ensures.below)
 
 pub loop-b-preserved : goal.loop-b-preserved
 loop-b-preserved c =
-    row_on c.requires.1 (omega arith) c.loop-b.invariant c.set_bit.ensures (c.join_row.ensures ways_at c.args.a c.loop-b.b refl refl)
-    c.next_new-b-in-loop-b.ensures
+    let n = c.in-Some.ensures.first in
+    let below = c.in-Some.ensures.below in
+    row_on c.requires.1 below (row_next c.requires.1 c.loop-b.invariant n) (n.new below).0 c.set_bit.ensures
+    (c.join_row.ensures ways_at c.args.a c.in-Some.b refl refl)
 
 pub returns : goal.returns
-returns c = row_end c.requires.1 (c.take_ends.ensures c.args.a refl refl) (omega arith) c.loop-b.invariant
+returns c =
+    row_end c.requires.1 (c.take_ends.ensures c.args.a refl refl) (omega arith)
+    (row_next c.requires.1 c.loop-b.invariant (rw c.in_default.is at c.next_new.ensures.first))
