@@ -1,16 +1,16 @@
 -- The questions word by word: what an answer says of the word, and what it takes to be given one.
 use mathlib.Core.Path.{◌≡◌, refl, ◌∙◌, ap, sym}
 use mathlib.Core.Logic.{◌⊎◌, inl, inr, ◌↔◌}
-use mathlib.Core.Bool.{Bool, true, false, not, ◌&&◌, true≢false}
+use mathlib.Core.Bool.{Bool, true, false, ◌&&◌, true≢false}
 use mathlib.Core.List.{List}
-use Prim.Native.Nat.{ℕ, ◌+◌, ◌-◌, ◌<◌, ◌≤◌}
+use Prim.Native.Nat.{ℕ, ◌+◌, ◌<◌, ◌≤◌}
 use native.Mathlib.Omega.{arith}
 use native.Mathlib.Nat.{add-zero}
 use native.Mathlib.Numerals.{add-one}
 use lib.Dec.{ltb, leb, eqb}
 use lib.ListN.{length, get_or, drop, length-drop}
 use lib.Seq.{get_or-drop}
-use borrow.Author.Tests.{lt-ltb, le-ltb, lt-leb, le-leb, leb-true, ltb-true, eqb-true, eqb-false, eq-eqb, ne_eqb}
+use borrow.Author.Tests.{lt-ltb, leb-true, ltb-true, eqb-true, eqb-false, eq-eqb, ne_eqb}
 use Rattle.logs.specs.Words.{kind, number, to_episode, to_pause}
 use Rattle.logs.specs.Answer.{Answer, given, refused, question, and_then}
 use Rattle.logs.specs.Log.{to_before_last, head_word, group_word, end_word}
@@ -33,38 +33,6 @@ module _ {A B : Type 0} where
   pub then_refused : (x : Answer A) (b : B) (q p : ℕ) → (and_then x (given b) ≡ refused q p) ↔ (x ≡ refused q p)
   then_refused (given a) b q p = (λ e. absurd (not_both (given b) b q p refl e), λ e. absurd (not_both (given a) a q p refl e))
   then_refused (refused j x) b q p = (λ e. cc e, λ e. cc e)
-
--- a question that is answered no, and one that is answered yes
-pub denied : {A : Type 0} (k p : ℕ) (b : Bool) (next : Answer A) → b ≡ false → refused k p ≡ question k p b next
-denied k p b next e = rw e
-
-pub answered : {A : Type 0} (k p : ℕ) (b : Bool) (next r : Answer A) → b ≡ true → r ≡ next → r ≡ question k p b next
-answered k p b next r e f = rw e f
-
--- the head, by its kind `k` and its number `x`
-module _ (m : Ceilings) (w k x : ℕ) (is-kind : k ≡ kind w) (is_number : x ≡ number w) where
-  pub no_head : (k ≡ 1 → ⊥) → refused 2 0 ≡ head_word m w
-  no_head h = rw (← is-kind, ne_eqb k 1 h)
-
-  pub too_many : k ≡ 1 → m.episodes < x → refused 3 0 ≡ head_word m w
-  too_many h g = rw (← is-kind, eq-eqb k 1 h, ← is_number, lt-leb x m.episodes g)
-
-  pub head_taken : k ≡ 1 → x ≤ m.episodes → given (k, x, 0) ≡ head_word m w
-  head_taken h g = rw (← is-kind, eq-eqb k 1 h, ← is_number, le-leb x m.episodes g)
-
--- the last word
-module _ (p w t k x : ℕ) (is-kind : k ≡ kind w) (is_number : x ≡ number w) where
-  pub no_end : (k ≡ 15 → ⊥) → refused 9 p ≡ end_word p w t
-  unfolding end_word
-  no_end h = rw (← is-kind, ne_eqb k 15 h)
-
-  pub miscounted : k ≡ 15 → (x ≡ t → ⊥) → refused 10 p ≡ end_word p w t
-  unfolding end_word
-  miscounted h g = rw (← is-kind, eq-eqb k 15 h, ← is_number, ne_eqb x t g)
-
-  pub end_passed : k ≡ 15 → x ≡ t → given (k, x, 0) ≡ end_word p w t
-  unfolding end_word
-  end_passed h g = rw (← is-kind, eq-eqb k 15 h, ← is_number, eq-eqb x t g)
 
 -- two tests whose facts follow from each other
 same_test : (a b c d : ℕ) → (a < b → c < d) → (c < d → a < b) → ltb a b ≡ ltb c d
@@ -92,14 +60,6 @@ to_there l p e = by_value (ltb (p + 1) (length l)) refl
 
 pub there_to : (l : List ℕ) (p : ℕ) → p + 1 < length l → kind (get_or l p 0) ≡ 3 → to_before_last l p ≡ true
 there_to l p h e = rw (lt-ltb _ _ h, e)
-
--- the test as the code makes it, by the kind `k` of the word
-module _ (l : List ℕ) (p k : ℕ) (is-kind : k ≡ kind (get_or l p 0)) where
-  pub not_last : p + 1 < length l → eqb k 3 ≡ to_before_last l p
-  not_last h = rw (lt-ltb (p + 1) (length l) h, ← is-kind)
-
-  pub is_last : p ≡ length l - 1 → not (eqb p (length l - 1)) ≡ to_before_last l p
-  is_last h = rw (eq-eqb p (length l - 1) h, le-ltb (p + 1) (length l) (omega arith))
 
 -- a question that is followed by an answer was answered yes
 pub asked : {A : Type 0} (k p : ℕ) (b : Bool) (next : Answer A) (a : A) → question k p b next ≡ given a → (b ≡ true) × (next ≡ given a)
@@ -183,4 +143,5 @@ to_given m n p w rest from t k =
     group_to m n p w rest from t k.kind_to ∙ rw (k.from_before, lt-ltb (to_episode w) n k.below, lt-ltb t m.words k.room)
 
 pub end_given : (p w t : ℕ) → kind w ≡ 15 → number w ≡ t → end_word p w t ≡ given (kind w, number w, 0)
-end_given p w t k x = sym (end_passed p w t (kind w) (number w) refl refl k x)
+unfolding end_word
+end_given p w t k x = rw (eq-eqb (kind w) 15 k, eq-eqb (number w) t x)

@@ -4,17 +4,20 @@ use mathlib.Core.Path.{◌≡◌, refl, ◌∙◌, ap, sym}
 use mathlib.Core.Logic.{◌⊎◌, inl, inr, ⊎_elim}
 use mathlib.Core.Bool.{true, false, true≢false}
 use mathlib.Core.List.{List}
+use Rattle.std.specs.Prelude.{Result, Ok, Err}
 use Prim.Native.Nat.{ℕ, ◌+◌, ◌-◌, ◌<◌, ◌≤◌}
 use native.Mathlib.Omega.{arith}
 use lib.Dec.{ltb}
 use lib.ListN.{length, get_or, drop}
 use borrow.Author.Tests.{lt-ltb, ltb-true}
 use Rattle.logs.specs.Words.{kind, number, to_episode, to_pause}
-use Rattle.logs.specs.Answer.{Answer, given, question, word_answer}
+use Rattle.logs.specs.Answer.{Answer, given, question, reason_number, result_answer, to_figures, word_figures, word_answer}
 use Rattle.logs.specs.Log.{to_before_last, group_word}
 use Rattle.logs.specs.Places.{onwards_at, Stopped}
+use Rattle.logs.specs.declared.ToWord.{ToWord}
 use Rattle.logs.specs.declared.LogWord.{LogWord}
-use Rattle.logs.specs.declared.LogWord.TheVariants.{Taken, GivenUp}
+use Rattle.logs.specs.declared.LogWord.TheVariants.{From, To, End}
+use Rattle.logs.specs.declared.Refusal.{Refusal}
 use Rattle.logs.specs.declared.Ceilings.{Ceilings}
 use Rattle.logs.proofs.Asked.{behind, asked, to_there, there_to, group_to, group_taken, from_given, FromTaken, ToTaken}
 use Rattle.logs.proofs.Places.{word_between, stop_last, stop_refused, step_from, step_to}
@@ -62,83 +65,92 @@ module _ (m : Ceilings) (l : List ℕ) (n p t : ℕ) where
         ended = inl (omega (arith, g.within));
       }
 
-  module _ (r : LogWord) (k x : ℕ) where
-    -- of the word where a group begins, 4 to 8 are asked
-    module _ (g : AtGroup m l n p t) (h : p + 1 < length l)
-        (e : word_answer r ≡ group_word m n p (get_or l p 0) (drop (p + 1) l) (ltb 1 p) t) where
-      -- it is taken as a from word
-      is_taken : (q : ℕ) → r ≡ Taken k x q → FromTaken n (get_or l p 0) (drop (p + 1) l)
-      is_taken q is =
-          ⊎_elim (λ taken. taken) (λ taken. absurd (no_to g h taken))
-          (group_taken m n p (get_or l p 0) (drop (p + 1) l) (ltb 1 p) t (k, x, q) (sym e ∙ ap word_answer is))
+  -- of the word where a group begins, 4 to 8 are asked
+  module _ (g : AtGroup m l n p t) (h : p + 1 < length l) (r : Result LogWord Refusal)
+      (e : word_answer r ≡ group_word m n p (get_or l p 0) (drop (p + 1) l) (ltb 1 p) t) where
+    -- it is taken as a from word
+    is_taken : (w : LogWord) → r ≡ Ok w → FromTaken n (get_or l p 0) (drop (p + 1) l)
+    is_taken w is =
+        ⊎_elim (λ taken. taken) (λ taken. absurd (no_to g h taken))
+        (group_taken m n p (get_or l p 0) (drop (p + 1) l) (ltb 1 p) t (word_figures w) (sym e ∙ ap word_answer is))
 
-      pub from_taken : (q : ℕ) → r ≡ Taken k x q → InGroup m l n (p + 1) t × (to_before_last l (p + 1) ≡ true)
-      from_taken q is =
-          let taken = is_taken q is in (
-            record {
-              behind_from = omega arith;
-              within = h;
-              few = omega arith;
-              same = sym (step_from m l n p (ltb 1 p) t (k, x, q) h (sym e ∙ ap word_answer is) taken.kind_from) ∙ g.same;
-            },
-            sym (behind l (p + 1)) ∙ taken.to_follows,
-          )
+    -- it gives its episode
+    figures : (w : LogWord) → r ≡ Ok w → ◌≡◌ {A = ℕ × ℕ × ℕ} (word_figures w) (2, number (get_or l p 0), 0)
+    figures w is =
+        let taken = is_taken w is in
+        cc (sym e ∙ ap word_answer is, from_given m n p (get_or l p 0) (drop (p + 1) l) (ltb 1 p) t taken)
 
-      -- it gives its episode
-      pub from_episode : (q : ℕ) → r ≡ Taken k x q → (kind (get_or l p 0) ≡ 2) × (x ≡ number (get_or l p 0)) × (x < n)
-      from_episode q is =
-          let taken = is_taken q is in
-          let same : ◌≡◌ {A = ℕ × ℕ × ℕ} (k, x, q) (2, number (get_or l p 0), 0) =
-          cc (sym e ∙ ap word_answer is, from_given m n p (get_or l p 0) (drop (p + 1) l) (ltb 1 p) t taken) in
-          let episode : x ≡ number (get_or l p 0) = ap (λ (v : ℕ × ℕ × ℕ). v.1) same in
-          (taken.kind_from, episode, omega (arith, taken.below))
-
-      pub from_given_up : r ≡ GivenUp k x → Stopped m l n p t
-      from_given_up is =
-          let given-up = sym e ∙ ap word_answer is in
-          record {
-            within = g.within;
-            answer = sym g.same ∙ stop_refused m l n p (ltb 1 p) t k x h given-up;
-            ended = inr (k, x, word_between m l n p (ltb 1 p) t h ∙ given-up);
-          }
-
-    -- of a to word behind its group's from word, 7 and 8 are left to ask
-    module _ (g : InGroup m l n p t) (to_here : to_before_last l p ≡ true)
-        (e : word_answer r
-        ≡ question 7 p (ltb (to_episode (get_or l p 0)) n)
-        (question 8 p (ltb t m.words) (given (3, to_episode (get_or l p 0), to_pause (get_or l p 0))))) where
-      all_asked : word_answer r ≡ group_word m n p (get_or l p 0) (drop (p + 1) l) true t
-      all_asked = e ∙ sym (group_to m n p (get_or l p 0) (drop (p + 1) l) true t (to_there l p to_here).1)
-
-      pub to_taken : (q : ℕ) → r ≡ Taken k x q → InGroup m l n (p + 1) (t + 1)
-      to_taken q is =
-          let there = to_there l p to_here in
+    pub from_taken : (x : ℕ) → r ≡ Ok (From x) → InGroup m l n (p + 1) t × (to_before_last l (p + 1) ≡ true)
+    from_taken x is =
+        let taken = is_taken (From x) is in (
           record {
             behind_from = omega arith;
-            within = there.0;
+            within = h;
             few = omega arith;
-            same = sym (step_to m l n p true t (k, x, q) there.0 (sym all_asked ∙ ap word_answer is) there.1) ∙ g.same;
-          }
+            same = sym (step_from m l n p (ltb 1 p) t (2, x, 0) h (sym e ∙ ap word_answer is) taken.kind_from) ∙ g.same;
+          },
+          sym (behind l (p + 1)) ∙ taken.to_follows,
+        )
 
-      -- it gives its episode
-      pub to_episode_lem : (q : ℕ) → r ≡ Taken k x q → (x ≡ to_episode (get_or l p 0)) × (x < n)
-      to_episode_lem q is =
-          let next : Answer (ℕ × ℕ × ℕ) = question 8 p (ltb t m.words) (given (3, to_episode (get_or l p 0), to_pause (get_or l p 0))) in
-          let seven = asked 7 p (ltb (to_episode (get_or l p 0)) n) next (k, x, q) (sym e ∙ ap word_answer is) in
-          let eight = asked 8 p (ltb t m.words) (given (3, to_episode (get_or l p 0), to_pause (get_or l p 0))) (k, x, q) seven.1 in
-          let same : ◌≡◌ {A = ℕ × ℕ × ℕ} (k, x, q) (3, to_episode (get_or l p 0), to_pause (get_or l p 0)) = cc eight.1 in
-          let episode : x ≡ to_episode (get_or l p 0) = ap (λ (v : ℕ × ℕ × ℕ). v.1) same in
-          (episode, omega (arith, ltb-true (to_episode (get_or l p 0)) n seven.0))
+    pub from_episode : (x : ℕ) → r ≡ Ok (From x) → (kind (get_or l p 0) ≡ 2) × (x ≡ number (get_or l p 0)) × (x < n)
+    from_episode x is =
+        let taken = is_taken (From x) is in
+        let number_is : x ≡ number (get_or l p 0) = ap (λ (v : ℕ × ℕ × ℕ). v.1) (figures (From x) is) in
+        (taken.kind_from, number_is, omega (arith, taken.below))
 
-      pub to_given_up : r ≡ GivenUp k x → Stopped m l n p t
-      to_given_up is =
-          let there = to_there l p to_here in
-          let given-up = sym all_asked ∙ ap word_answer is in
-          record {
-            within = g.within;
-            answer = rw (lt-ltb 1 p g.behind_from) (sym g.same ∙ stop_refused m l n p true t k x there.0 given-up);
-            ended = inr (k, x, rw (lt-ltb 1 p g.behind_from) (word_between m l n p true t there.0 ∙ given-up));
-          }
+    -- where it is not, it is refused
+    pub from_given_up : ((x : ℕ) → r ≡ Ok (From x) → ⊥) → Stopped m l n p t
+    from_given_up other = by_result r refl
+      where
+        by_result : (s : Result LogWord Refusal) → r ≡ s → Stopped m l n p t
+        by_result (Ok (From x)) is = absurd (other x is)
+        by_result (Ok (To w)) is = let k = ap (λ (v : ℕ × ℕ × ℕ). v.0) (figures (To w) is) in absurd (omega arith)
+        by_result (Ok (End x)) is = let k = ap (λ (v : ℕ × ℕ × ℕ). v.0) (figures (End x) is) in absurd (omega arith)
+        by_result (Err f) is =
+            let given_up = sym e ∙ ap word_answer is in
+            record {
+              within = g.within;
+              answer = sym g.same ∙ stop_refused m l n p (ltb 1 p) t _ _ h given_up;
+              ended = inr (_, _, word_between m l n p (ltb 1 p) t h ∙ given_up);
+            }
+
+  -- of a to word behind its group's from word, 7 and 8 are left to ask
+  module _ (g : InGroup m l n p t) (to_here : to_before_last l p ≡ true) (r : Result ToWord Refusal)
+      (e : result_answer to_figures r
+      ≡ question 7 p (ltb (to_episode (get_or l p 0)) n)
+      (question 8 p (ltb t m.words) (given (3, to_episode (get_or l p 0), to_pause (get_or l p 0))))) where
+    all_asked : result_answer to_figures r ≡ group_word m n p (get_or l p 0) (drop (p + 1) l) true t
+    all_asked = e ∙ sym (group_to m n p (get_or l p 0) (drop (p + 1) l) true t (to_there l p to_here).1)
+
+    pub to_taken : (w : ToWord) → r ≡ Ok w → InGroup m l n (p + 1) (t + 1)
+    to_taken w is =
+        let there = to_there l p to_here in
+        record {
+          behind_from = omega arith;
+          within = there.0;
+          few = omega arith;
+          same = sym (step_to m l n p true t (to_figures w) there.0 (sym all_asked ∙ ap (result_answer to_figures) is) there.1) ∙ g.same;
+        }
+
+    -- it gives its episode
+    pub to_episode_lem : (w : ToWord) → r ≡ Ok w → (w.episode ≡ to_episode (get_or l p 0)) × (w.episode < n)
+    to_episode_lem w is =
+        let next : Answer (ℕ × ℕ × ℕ) = question 8 p (ltb t m.words) (given (3, to_episode (get_or l p 0), to_pause (get_or l p 0))) in
+        let seven = asked 7 p (ltb (to_episode (get_or l p 0)) n) next (to_figures w) (sym e ∙ ap (result_answer to_figures) is) in
+        let eight = asked 8 p (ltb t m.words) (given (3, to_episode (get_or l p 0), to_pause (get_or l p 0))) (to_figures w) seven.1 in
+        let same : ◌≡◌ {A = ℕ × ℕ × ℕ} (to_figures w) (3, to_episode (get_or l p 0), to_pause (get_or l p 0)) = cc eight.1 in
+        let episode : w.episode ≡ to_episode (get_or l p 0) = ap (λ (v : ℕ × ℕ × ℕ). v.1) same in
+        (episode, omega (arith, ltb-true (to_episode (get_or l p 0)) n seven.0))
+
+    pub to_given_up : (f : Refusal) → r ≡ Err f → Stopped m l n p t
+    to_given_up f is =
+        let there = to_there l p to_here in
+        let given_up = sym all_asked ∙ ap (result_answer to_figures) is in
+        record {
+          within = g.within;
+          answer = rw (lt-ltb 1 p g.behind_from) (sym g.same ∙ stop_refused m l n p true t (reason_number f.reason) f.place there.0 given_up);
+          ended = inr (reason_number f.reason, f.place, rw (lt-ltb 1 p g.behind_from) (word_between m l n p true t there.0 ∙ given_up));
+        }
 
 -- the place behind a to word, where the to words before it are told by `others`, the words before it that are none
 pub group_by_others : (m : Ceilings) (l : List ℕ) (n p others : ℕ) → others ≤ p → InGroup m l n (p + 1) (p - others + 1) → InGroup m l n (p + 1) (p + 1 - others)

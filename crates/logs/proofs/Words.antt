@@ -1,8 +1,12 @@
 -- A word is its kind and its number, and a to word its episode and its pause.
 use mathlib.Core.Path.{◌≡◌}
+use mathlib.Core.Bool.{true, false}
 use Prim.Native.Nat.{ℕ, ◌+◌, ◌*◌, ◌<◌, ◌^◌}
 use native.Mathlib.Omega.{arith}
-use Rattle.logs.specs.Words.{kind, number, word, to_episode, to_pause, to_word}
+use lib.Dec.{eqb}
+use borrow.Author.Tests.{eqb-true, eqb-false, eq-eqb}
+use Rattle.logs.specs.Words.{kind, number, word, Small, to_episode, to_pause, to_word, kind_code}
+use Rattle.logs.specs.declared.Kind.{Kind}
 use Rattle.logs.specs.Log.{figure, minutes}
 
 pub kind_word : (k x : ℕ) → x < 2 ^ 28 → kind (word k x) ≡ k
@@ -16,6 +20,25 @@ word_kind_number w = omega arith
 
 pub number_lt : (w : ℕ) → number w < 2 ^ 28
 number_lt w = omega arith
+
+-- the kind of a word, as it is tested
+module _ (k : Kind) (w : ℕ) where
+  pub kind_tested : eqb (kind w) (kind_code k) ≡ true → kind w ≡ kind_code k
+  kind_tested = eqb-true (kind w) (kind_code k)
+
+  pub kind_passes : kind w ≡ kind_code k → eqb (kind w) (kind_code k) ≡ true
+  kind_passes = eq-eqb (kind w) (kind_code k)
+
+  pub kind_differs : eqb (kind w) (kind_code k) ≡ false → kind w ≡ kind_code k → ⊥
+  kind_differs = eqb-false (kind w) (kind_code k)
+
+-- the word of a kind with a number
+module _ (k : Kind) (x : ℕ) (small : Small x) where
+  pub word_kind : kind (word (kind_code k) x) ≡ kind_code k
+  word_kind = kind_word (kind_code k) x small
+
+  pub word_number : number (word (kind_code k) x) ≡ x
+  word_number = number_word (kind_code k) x small
 
 -- a to word is made of its two figures, which must fit
 module _ (b p : ℕ) (fits : b < 2 ^ 16) (short : p < 2 ^ 12) where

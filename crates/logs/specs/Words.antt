@@ -1,5 +1,7 @@
 -- A word of 32 bits: its top 4 bits are its kind, its low 28 bits its number. A to word's number is two figures.
 use Rattle.std.specs.Prelude.{ℕ, ◌+◌, ◌*◌, ◌/◌, ◌%◌, ◌^◌, ◌<◌}
+use Rattle.logs.specs.declared.Kind.{Kind}
+use Rattle.logs.specs.declared.Kind.TheVariants.{Head, From, To, Width, Apart, Thread, Step, Loop, End}
 
 abbrev pub kind : ℕ → ℕ
 kind w = w / 2 ^ 28
@@ -26,3 +28,15 @@ to_pause w = number w / 2 ^ 16
 -- the to word of the episode `b` and the pause `p`
 abbrev pub to_word : ℕ → ℕ → ℕ
 to_word b p = word 3 (p * 2 ^ 16 + b)
+
+-- the number of a kind
+abbrev pub kind_code : Kind → ℕ
+kind_code Head = 1
+kind_code From = 2
+kind_code To = 3
+kind_code Width = 4
+kind_code Apart = 5
+kind_code Thread = 6
+kind_code Step = 7
+kind_code Loop = 8
+kind_code End = 15

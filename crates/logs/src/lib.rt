@@ -1,39 +1,58 @@
 // The reading of a log: questions 1 to 10.
 #![tactic(auto)]
 
-ghost use Rattle.std.specs.Prelude.{◌≡◌, false, ◌+◌, ◌<◌, ◌≤◌, ltb, length, get_or, drop};
-ghost use Rattle.logs.specs.Words.{kind, number, to_episode, to_pause};
-ghost use Rattle.logs.specs.Answer.{given, question, and_then, word_answer, read_answer};
+ghost use Rattle.std.specs.Prelude.{◌≡◌, false, ◌+◌, ◌<◌, ◌≤◌, ltb, eqb, length, get_or, drop};
+ghost use Rattle.logs.specs.Words.{kind, number, word, Small, to_episode, to_pause, kind_code};
+ghost use Rattle.logs.specs.Answer.{given, question, reason_number, result_answer, numbered, to_figures, word_answer, read_answer};
 ghost use Rattle.logs.specs.Log.{service, to_before_last, head_word, group_word, end_word, questions};
 ghost use Rattle.logs.specs.Places.{log_word_at, Stopped};
 ghost use Rattle.logs.specs.Groups.{ToWords};
 
+use std::error::Error;
+use std::fmt;
+
 // The most episodes and the most to words that a caller takes.
-#[derive(Clone, Copy)]
+#[derive(Clone, Copy, Debug, PartialEq, Eq)]
 pub struct Ceilings {
     pub episodes: usize,
     pub words: usize,
 }
 
-// A log word: its kind, its number, which of a to word is its episode, and its pause, which only a to word has; or the number and place of
-// the refusal that it earns.
-#[derive(Clone, Copy)]
-pub enum LogWord {
-    Taken(u32, usize, u32),
-    GivenUp(u32, usize),
+// The kinds of words of logs and reports.
+#[derive(Clone, Copy, Debug, PartialEq, Eq)]
+pub enum Kind {
+    Head = 1,
+    From = 2,
+    To = 3,
+    Width = 4,
+    Apart = 5,
+    Thread = 6,
+    Step = 7,
+    Loop = 8,
+    End = 15,
 }
 
-// A log: its count of episodes and of to words, or the number and place of its refusal.
-#[derive(Clone, Copy)]
-pub enum Reading {
-    Passed(usize, usize),
-    Refused(u32, usize),
-}
+impl Kind {
+    pub fn code(self) -> u32
+        ensures { result ≡ kind_code self }
+    {
+        self as u32
+    }
 
-pub fn kind_of(w: u32) -> u32
-    ensures { result ≡ kind w }
-{
-    w / 0x1000_0000
+    // Whether the word `w` is of this kind.
+    pub fn is_of(self, w: u32) -> bool
+        ensures { result ≡ eqb (kind w) (kind_code self) }
+    {
+        w / 0x1000_0000 == self.code()
+    }
+
+    // The word of this kind with a number.
+    pub fn word(self, number: usize) -> u32
+        requires { Small number }
+        ensures { result ≡ word (kind_code self) number }
+    {
+        self.code() * 0x1000_0000 + number as u32
+    }
 }
 
 pub fn number_of(w: u32) -> usize
@@ -43,37 +62,109 @@ pub fn number_of(w: u32) -> usize
 }
 
 // A to word: its later episode and its pause in minutes.
-#[derive(Clone, Copy)]
+#[derive(Clone, Copy, Debug, PartialEq, Eq)]
 pub struct ToWord {
     pub episode: usize,
     pub pause: u32,
 }
 
-// Takes a to word apart.
-pub fn to_word_of(w: u32) -> ToWord
-    ensures { (result.episode ≡ to_episode w) × (result.pause ≡ to_pause w) }
-{
-    let number = w % 0x1000_0000;
-    ToWord {
-        episode: (number % 0x1_0000) as usize,
-        pause: number / 0x1_0000,
+impl From<u32> for ToWord {
+    ghost from_gives = { λ w t. (t.episode ≡ to_episode w) × (t.pause ≡ to_pause w) };
+
+    fn from(w: u32) -> ToWord {
+        let number = w % 0x1000_0000;
+        ToWord {
+            episode: (number % 0x1_0000) as usize,
+            pause: number / 0x1_0000,
+        }
     }
 }
 
-// Questions 2 and 3, of the head.
-pub fn head_word(most: Ceilings, w: u32) -> LogWord
-    ensures { word_answer result ≡ head_word most w }
+// Why a call is refused: the questions that are answered no, by their numbers.
+#[derive(Clone, Copy, Debug, PartialEq, Eq)]
+pub enum Reason {
+    TooShort = 1,
+    NoHead = 2,
+    TooManyEpisodes = 3,
+    UnknownKind = 4,
+    ToBeforeFrom = 5,
+    FromWithoutTo = 6,
+    NoSuchEpisode = 7,
+    TooManyToWords = 8,
+    NoEnd = 9,
+    WrongCount = 10,
+    OutputTooShort = 11,
+    WorkTooShort = 12,
+    Loop = 13,
+    TooManyBytes = 14,
+    PartOfAWord = 15,
+    NotAReport = 16,
+    NoSuchThread = 17,
+}
+
+impl Reason {
+    // The refusal for this reason at a place.
+    pub fn at(self, place: usize) -> Refusal
+        ensures { result ≡ record { reason = self; place = place } }
+    {
+        Refusal {
+            reason: self,
+            place,
+        }
+    }
+}
+
+// A refusal: its reason and its place.
+#[derive(Clone, Copy, Debug, PartialEq, Eq)]
+pub struct Refusal {
+    pub reason: Reason,
+    pub place: usize,
+}
+
+impl Refusal {
+    pub fn number(self) -> u32
+        ensures { result ≡ reason_number self.reason }
+    {
+        self.reason as u32
+    }
+}
+
+impl fmt::Display for Refusal {
+    fn fmt<W: fmt::Write>(&self, f: &mut fmt::Formatter<W>) -> fmt::Result {
+        write!(f, "refused {} at {}", self.number(), self.place)
+    }
+}
+
+impl Error for Refusal {}
+
+// A log word between head and end, or the end: its number, which of a to word is its episode and its pause.
+#[derive(Clone, Copy, Debug, PartialEq, Eq)]
+pub enum LogWord {
+    From(usize),
+    To(ToWord),
+    End(usize),
+}
+
+// What a log passes with: its count of episodes and of to words.
+#[derive(Clone, Copy, Debug, PartialEq, Eq)]
+pub struct Reading {
+    pub episodes: usize,
+    pub to_words: usize,
+}
+
+// Questions 2 and 3, of the head: its number.
+pub fn head_word(most: Ceilings, w: u32) -> Result<usize, Refusal>
+    ensures { result_answer (numbered 1) result ≡ head_word most w }
 {
-    let kind = kind_of(w);
     let number = number_of(w);
     let ceiling = most.episodes;
-    if kind != 1 {
-        return LogWord::GivenUp(2, 0);
+    if !Kind::Head.is_of(w) {
+        return Err(Reason::NoHead.at(0));
     }
     if ceiling < number {
-        return LogWord::GivenUp(3, 0);
+        return Err(Reason::TooManyEpisodes.at(0));
     }
-    LogWord::Taken(kind, number, 0)
+    Ok(number)
 }
 
 // Whether the word at `at` is not the last, and is a to word.
@@ -82,7 +173,7 @@ pub fn to_before_last(log: &[u32], at: usize) -> bool
     ensures { result ≡ to_before_last log.now at }
 {
     let w = log[at];
-    at != log.len() - 1 && kind_of(w) == 3
+    at != log.len() - 1 && Kind::To.is_of(w)
 }
 
 // The place behind the to words that stand from `start` on.
@@ -97,39 +188,38 @@ pub fn group_end(log: &[u32], start: usize) -> usize
     at
 }
 
-// Questions 6 and 7, of a from word at `at`.
-fn from_word(log: &[u32], n: usize, at: usize, earlier: usize) -> LogWord
+// Questions 6 and 7, of a from word at `at`: its number.
+fn from_word(log: &[u32], n: usize, at: usize, earlier: usize) -> Result<usize, Refusal>
     requires { at + 1 < length log.now }
-    ensures { word_answer result ≡ question 6 at (to_before_last log.now (at + 1)) (question 7 at (ltb earlier n) (given (2, earlier, 0))) }
+    ensures { result_answer (numbered 2) result ≡ question 6 at (to_before_last log.now (at + 1)) (question 7 at (ltb earlier n) (given (2, earlier, 0))) }
 {
     let follows = to_before_last(log, at + 1);
     if !follows {
-        return LogWord::GivenUp(6, at);
+        return Err(Reason::FromWithoutTo.at(at));
     }
     if n <= earlier {
-        LogWord::GivenUp(7, at)
-    } else {
-        LogWord::Taken(2, earlier, 0)
+        return Err(Reason::NoSuchEpisode.at(at));
     }
+    Ok(earlier)
 }
 
 // Questions 7 and 8, of a to word at `at` that has a from word before it.
-pub fn to_word(most: Ceilings, n: usize, at: usize, w: u32, count: usize) -> LogWord
-    ensures { word_answer result ≡ question 7 at (ltb (to_episode w) n) (question 8 at (ltb count most.words) (given (3, to_episode w, to_pause w))) }
+pub fn to_word(most: Ceilings, n: usize, at: usize, w: u32, count: usize) -> Result<ToWord, Refusal>
+    ensures { result_answer to_figures result ≡ question 7 at (ltb (to_episode w) n) (question 8 at (ltb count most.words) (given (3, to_episode w, to_pause w))) }
 {
     let ceiling = most.words;
-    let to = to_word_of(w);
-    let later = to.episode;
-    if n <= later {
-        return LogWord::GivenUp(7, at);
+    let to = ToWord::from(w);
+    if n <= to.episode {
+        return Err(Reason::NoSuchEpisode.at(at));
     }
     if ceiling <= count {
-        return LogWord::GivenUp(8, at);
+        return Err(Reason::TooManyToWords.at(at));
     }
-    LogWord::Taken(3, later, to.pause)
+    Ok(to)
 }
 
 // Questions 4 to 8, of the word at `at`, which is neither the head nor the last.
+#[tactic(auto, using(crate::proofs::Asked::group_from, crate::proofs::Asked::group_to, crate::proofs::Asked::group_other, crate::proofs::Asked::behind))]
 pub fn group_word(
     most: Ceilings,
     log: &[u32],
@@ -137,37 +227,36 @@ pub fn group_word(
     at: usize,
     from: bool,
     count: usize,
-) -> LogWord
+) -> Result<LogWord, Refusal>
     requires { at + 1 < length log.now }
     ensures { word_answer result ≡ group_word most n at (get_or log.now at 0) (drop (at + 1) log.now) from count }
 {
     let w = log[at];
-    let kind = kind_of(w);
-    if kind == 2 {
-        return from_word(log, n, at, number_of(w));
+    if Kind::From.is_of(w) {
+        return Ok(LogWord::From(from_word(log, n, at, number_of(w))?));
     }
-    if kind != 3 {
-        return LogWord::GivenUp(4, at);
+    if !Kind::To.is_of(w) {
+        return Err(Reason::UnknownKind.at(at));
     }
     if !from {
-        return LogWord::GivenUp(5, at);
+        return Err(Reason::ToBeforeFrom.at(at));
     }
-    to_word(most, n, at, w, count)
+    Ok(LogWord::To(to_word(most, n, at, w, count)?))
 }
 
-// Questions 9 and 10, of the last word, `w` at `at`.
-fn end_word(w: u32, at: usize, count: usize) -> LogWord
-    ensures { word_answer result ≡ end_word at w count }
+// Questions 9 and 10, of the last word, `w` at `at`: its number.
+#[tactic(auto, unfolding(crate::specs::Log::end_word))]
+fn end_word(w: u32, at: usize, count: usize) -> Result<usize, Refusal>
+    ensures { result_answer (numbered 15) result ≡ end_word at w count }
 {
-    let kind = kind_of(w);
     let number = number_of(w);
-    if kind != 15 {
-        return LogWord::GivenUp(9, at);
+    if !Kind::End.is_of(w) {
+        return Err(Reason::NoEnd.at(at));
     }
     if number != count {
-        return LogWord::GivenUp(10, at);
+        return Err(Reason::WrongCount.at(at));
     }
-    LogWord::Taken(kind, number, 0)
+    Ok(number)
 }
 
 // Questions 4 to 10, of the word at `at` behind the head.
@@ -178,14 +267,14 @@ pub fn log_word(
     at: usize,
     from: bool,
     count: usize,
-) -> LogWord
+) -> Result<LogWord, Refusal>
     requires { at < length log.now }
     ensures { word_answer result ≡ log_word_at most log.now n at from count }
 {
     if at + 1 < log.len() {
         group_word(most, log, n, at, from, count)
     } else {
-        end_word(log[at], at, count)
+        Ok(LogWord::End(end_word(log[at], at, count)?))
     }
 }
 
@@ -211,14 +300,14 @@ fn first_stop(most: Ceilings, log: &[u32], n: usize) -> Stop
         }
         // A group starts with its from word, which answers question 5 for its to words, and question 6 says that it has one. A to word is met
         // here only as word 1, before any from word.
-        let LogWord::Taken(_, _, _) = group_word(most, log, n, at, 1 < at, at - others) else {
+        let Ok(LogWord::From(_)) = group_word(most, log, n, at, 1 < at, at - others) else {
             break 'log at;
         };
         at += 1;
         others += 1;
         // Its to words.
         loop {
-            let LogWord::Taken(_, _, _) = to_word(most, n, at, log[at], at - others) else {
+            let Ok(_) = to_word(most, n, at, log[at], at - others) else {
                 break 'log at;
             };
             at += 1;
@@ -233,31 +322,21 @@ fn first_stop(most: Ceilings, log: &[u32], n: usize) -> Stop
     }
 }
 
-// The answer of a log with `n` episodes and `count` to words, unless the word is given up.
-fn answer_of(word: LogWord, n: usize, count: usize) -> Reading
-    ensures { read_answer result ≡ and_then (word_answer word) (given (n, count)) }
-{
-    match word {
-        LogWord::Taken(_, _, _) => Reading::Passed(n, count),
-        LogWord::GivenUp(number, place) => Reading::Refused(number, place),
-    }
-}
-
 // Questions 1 to 10, at a caller's ceilings.
-pub fn read_within(most: Ceilings, log: &[u32]) -> Reading
+#[tactic(auto, using(crate::proofs::Whole::too_short, crate::proofs::Whole::head_first, crate::proofs::Whole::word_stopped))]
+pub fn read_within(most: Ceilings, log: &[u32]) -> Result<Reading, Refusal>
     ensures { read_answer result ≡ questions most log.now }
 {
     if log.len() < 2 {
-        return Reading::Refused(1, 0);
+        return Err(Reason::TooShort.at(0));
     }
-    let head = head_word(most, log[0]);
-    let LogWord::Taken(_, n, _) = head else {
-        return answer_of(head, 0, 0);
-    };
+    let n = head_word(most, log[0])?;
     let stop = first_stop(most, log, n);
-    let place = stop.place;
-    let count = stop.count;
-    answer_of(log_word(most, log, n, place, 1 < place, count), n, count)
+    log_word(most, log, n, stop.place, 1 < stop.place, stop.count)?;
+    Ok(Reading {
+        episodes: n,
+        to_words: stop.count,
+    })
 }
 
 // The service's ceilings.
@@ -271,7 +350,7 @@ pub fn service_ceilings() -> Ceilings
 }
 
 // Questions 1 to 10, at the service's ceilings.
-pub fn read(log: &[u32]) -> Reading
+pub fn read(log: &[u32]) -> Result<Reading, Refusal>
     ensures { read_answer result ≡ questions service log.now }
 {
     read_within(service_ceilings(), log)
