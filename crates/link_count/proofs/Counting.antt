@@ -1,6 +1,6 @@
 -- Counting links: the matrix holds those before a place, and their count is that of the different ones. And what the place at which the
 -- questions stop says of the whole log.
-use mathlib.Core.Path.{◌≡◌, refl, ◌∙◌, ap, sym}
+use mathlib.Core.Path.{◌≡◌, refl, ◌∙◌, ap}
 use mathlib.Core.Logic.{⊎_elim}
 use mathlib.Core.List.{List, [], ◌∷◌, ◌++◌, map}
 use Prim.Native.Nat.{ℕ, ◌+◌, ◌-◌, ◌*◌, ◌<◌, ◌≤◌}
@@ -12,16 +12,14 @@ use Rattle.paths.specs.Links.{distinct, link_count}
 use Rattle.paths.proofs.Links.{distinct_again, distinct_new}
 use Rattle.logs.specs.Words.{kind, number, to_episode}
 use Rattle.logs.specs.Content.{joins}
-use Rattle.logs.specs.Answer.{Answer, given, refused, and_then, word_answer}
+use Rattle.logs.specs.Answer.{Answer, given, refused, and_then}
 use Rattle.logs.specs.Log.{head_word, questions, graph_of}
 use Rattle.logs.specs.Places.{log_word_at}
 use Rattle.logs.specs.Groups.{links_before, nearest_from}
-use Rattle.logs.specs.declared.LogWord.{LogWord}
-use Rattle.logs.specs.declared.LogWord.TheVariants.{Taken, GivenUp}
 use Rattle.logs.specs.declared.Ceilings.{Ceilings}
 use Rattle.logs.proofs.Asked.{not_both, head_passed}
 use Rattle.logs.proofs.Laws.{before_head, pass_from, links_to, heard_passed}
-use Rattle.logs.proofs.Whole.{head_given_up, word_stopped}
+use Rattle.logs.proofs.Whole.{word_stopped}
 use Rattle.bits.specs.Bits.{bit, BitSet}
 use Rattle.bits.specs.Work.{matrix_words}
 use Rattle.bits.proofs.Rows.{bit_lt}
@@ -73,31 +71,30 @@ module _ (l : List ℕ) (p : ℕ) (behind : 0 < p) (within : p < length l) (seen
           let m = s.marked.sound (nearest_from l p) b near low (rw here at held) in
           omega (arith, distinct_again (links_before l p) (nearest_from l p) b m, s.count)
 
+-- a head that is taken gives at most the ceiling
+pub head_few : (m : Ceilings) (w n : ℕ) → head_word m w ≡ given (1, n, 0) → n ≤ m.episodes
+head_few m w n e =
+    let (is-head, few, same) = head_passed m w (1, n, 0) e in
+    let number_is : number w ≡ n = ap (λ (v : ℕ × ℕ × ℕ). v.1) same in
+    omega arith
+
+-- a log whose reading is refused has no count
+pub not_counted : (m : Ceilings) (l : List ℕ) (k q : ℕ) → questions m l ≡ refused k q → count_asked m l ≡ refused k q
+not_counted m l k q e = rw e
+
 -- the answer of the word where the questions stop, and the count of the links before it, are those of the whole log
-module _ (m : Ceilings) (l : List ℕ) (long : 2 ≤ length l) (head : LogWord) (e : word_answer head ≡ head_word m (get_or l 0 0)) where
-  pub head_refused : (k q : ℕ) → head ≡ GivenUp k q → and_then (word_answer head) (given 0) ≡ count_asked m l
-  head_refused k q is = rw (sym (head_given_up m l long head e k q is), ap word_answer is)
-
-  -- a head that is taken gives at most the ceiling
-  pub head_few : (k n q : ℕ) → head ≡ Taken k n q → n ≤ m.episodes
-  head_few k n q is =
-      let (is-head, few, same) = head_passed m (get_or l 0 0) (k, n, q) (sym e ∙ ap word_answer is) in
-      let number_is : number (get_or l 0 0) ≡ n = ap (λ (v : ℕ × ℕ × ℕ). v.1) same in
-      omega arith
-
-  pub links_stopped : (k n q : ℕ) → head ≡ Taken k n q → (place words links : ℕ) → LinksStopped m l n place words links → (word : LogWord)
-      → word_answer word ≡ log_word_at m l n place (ltb 1 place) words → and_then (word_answer word) (given links) ≡ count_asked m l
-  links_stopped k n q is place words links stop word f =
-      let whole = word_stopped m l long head e k n q is place words stop.stopped word f in
-      by_answer (word_answer word) refl whole
-    where
-      by_answer : (a : Answer (ℕ × ℕ × ℕ)) → word_answer word ≡ a → and_then (word_answer word) (given (n, words)) ≡ questions m l
-          → and_then (word_answer word) (given links) ≡ count_asked m l
-      by_answer (refused j x) g whole = rw (sym whole, g)
-      by_answer (given v) g whole =
-          let passed : questions m l ≡ given (n, words) = sym whole ∙ rw g in
-          let last : place ≡ length l - 1 =
-          ⊎_elim (λ end. omega arith) (λ (j, x, no_end). absurd (not_both _ v j x (sym f ∙ g) no_end)) stop.stopped.ended in
-          let count : links ≡ link_count (graph_of l) =
-          stop.counted ∙ rw (last, ap (map joins) (heard_passed m l n words passed)) in
-          rw (passed, g, count)
+pub links_stopped : (m : Ceilings) (l : List ℕ) (n place words links : ℕ) → 2 ≤ length l → head_word m (get_or l 0 0) ≡ given (1, n, 0)
+    → LinksStopped m l n place words links → count_asked m l ≡ and_then (log_word_at m l n place (ltb 1 place) words) (given links)
+links_stopped m l n place words links long head stop =
+    let whole = word_stopped m l n place words long head stop.stopped in
+    by_answer (log_word_at m l n place (ltb 1 place) words) refl whole
+  where
+    by_answer : (a : Answer (ℕ × ℕ × ℕ)) → log_word_at m l n place (ltb 1 place) words ≡ a → questions m l ≡ and_then a (given (n, words))
+        → count_asked m l ≡ and_then a (given links)
+    by_answer (refused j x) g whole = rw whole
+    by_answer (given v) g whole =
+        let last : place ≡ length l - 1 =
+        ⊎_elim (λ end. omega arith) (λ (j, x, no_end). absurd (not_both _ v j x g no_end)) stop.stopped.ended in
+        let count : links ≡ link_count (graph_of l) =
+        stop.counted ∙ rw (last, ap (map joins) (heard_passed m l n words whole)) in
+        rw (whole, count)

@@ -1,18 +1,16 @@
 -- What a link count call gives.
-use Rattle.std.specs.Prelude.{◌≡◌, List, ℕ, length}
+use Rattle.std.specs.Prelude.{◌≡◌, List, ℕ, length, Result}
 use Rattle.paths.specs.Links.{distinct, link_count}
-use Rattle.logs.specs.Answer.{Answer, given, refused, and_then}
+use Rattle.logs.specs.Answer.{Answer, given, and_then, result_answer}
 use Rattle.logs.specs.Log.{questions, graph_of}
 use Rattle.logs.specs.Places.{Stopped}
 use Rattle.logs.specs.Groups.{links_before}
 use Rattle.logs.specs.declared.Ceilings.{Ceilings}
-use Rattle.link_count.specs.declared.LinkCount.{LinkCount}
-use Rattle.link_count.specs.declared.LinkCount.TheVariants.{Counted, Refused}
+use Rattle.logs.specs.declared.Refusal.{Refusal}
 
 -- The answer of a link count call: the count, or a refusal.
-abbrev pub count_answer : LinkCount → Answer ℕ
-count_answer (Counted k) = given k
-count_answer (Refused q p) = refused q p
+abbrev pub count_answer : Result ℕ Refusal → Answer ℕ
+count_answer = result_answer (λ k. k)
 
 -- Questions 1 to 10, then the link count of the log's graph.
 abbrev pub count_asked : Ceilings → List ℕ → Answer ℕ

@@ -2,29 +2,22 @@
 #![tactic(auto)]
 
 ghost use Rattle.std.specs.Prelude.{◌≡◌, ◌+◌, ◌/◌, ◌<◌, ◌≤◌, length, replicate};
-ghost use Rattle.logs.specs.Answer.{given, and_then, word_answer};
 ghost use Rattle.logs.specs.Log.{service};
 ghost use Rattle.bits.specs.Bits.{bit, BitSet};
 ghost use Rattle.bits.specs.Work.{matrix_words};
 ghost use Rattle.link_count.specs.Counted.{count_answer, count_asked, LinksStopped};
 
-use logs::{Ceilings, LogWord};
-
-// The link count of a log, or the number and place of its refusal.
-#[derive(Clone, Copy)]
-pub enum LinkCount {
-    Counted(usize),
-    Refused(u32, usize),
-}
+use logs::{Ceilings, LogWord, Reason, Refusal};
 
 // Marks the link to episode `to` in the row of its from word, which starts at word `row`; gives 1, or 0 where it was marked before.
+#[tactic(auto, using(bits::proofs::Rows::bit_lt))]
 fn mark(seen: &mut [u32], row: usize, to: usize) -> usize
     requires { row + to / 32 < length seen.old }
     ensures { BitSet seen.old seen.new row to × (result + bit seen.old row to ≡ 1) }
 {
     let before = bits::bit_at(seen, row, to);
     bits::set_bit(seen, row, to);
-    (1 - before) as usize
+    usize::from(!before)
 }
 
 // A place of the log, and the counts of to words and of different links before it.
@@ -50,18 +43,17 @@ fn count_to_stop(most: Ceilings, log: &[u32], n: usize, seen: &mut [u32]) -> Sto
         if at == last {
             break 'log at;
         }
-        let LogWord::Taken(_, from, _) = logs::group_word(most, log, n, at, 1 < at, at - others)
-        else {
+        let Ok(LogWord::From(from)) = logs::group_word(most, log, n, at, 1 < at, at - others) else {
             break 'log at;
         };
         let row = 8 * from;
         at += 1;
         others += 1;
         loop {
-            let LogWord::Taken(_, to, _) = logs::to_word(most, n, at, log[at], at - others) else {
+            let Ok(to) = logs::to_word(most, n, at, log[at], at - others) else {
                 break 'log at;
             };
-            links += mark(seen, row, to);
+            links += mark(seen, row, to.episode);
             at += 1;
             if !logs::to_before_last(log, at) {
                 break;
@@ -75,39 +67,24 @@ fn count_to_stop(most: Ceilings, log: &[u32], n: usize, seen: &mut [u32]) -> Sto
     }
 }
 
-// The count, unless the word is given up.
-fn answer_of(word: LogWord, links: usize) -> LinkCount
-    ensures { count_answer result ≡ and_then (word_answer word) (given links) }
-{
-    match word {
-        LogWord::Taken(_, _, _) => LinkCount::Counted(links),
-        LogWord::GivenUp(number, place) => LinkCount::Refused(number, place),
-    }
-}
-
 // The link count at a caller's ceilings, in one pass over the log.
-fn link_count_within(most: Ceilings, log: &[u32]) -> LinkCount
+#[tactic(auto, using(logs::proofs::Whole::too_short, logs::proofs::Whole::head_first, crate::proofs::Counting::links_stopped))]
+fn link_count_within(most: Ceilings, log: &[u32]) -> Result<usize, Refusal>
     requires { most.episodes ≤ 256 }
     ensures { count_answer result ≡ count_asked most log.now }
 {
     if log.len() < 2 {
-        return LinkCount::Refused(1, 0);
+        return Err(Reason::TooShort.at(0));
     }
-    let head = logs::head_word(most, log[0]);
-    let LogWord::Taken(_, n, _) = head else {
-        return answer_of(head, 0);
-    };
+    let n = logs::head_word(most, log[0])?;
     let mut seen = [0u32; 2048];
     let stop = count_to_stop(most, log, n, &mut seen);
-    let place = stop.place;
-    answer_of(
-        logs::log_word(most, log, n, place, 1 < place, stop.words),
-        stop.links,
-    )
+    logs::log_word(most, log, n, stop.place, 1 < stop.place, stop.words)?;
+    Ok(stop.links)
 }
 
 // The link count of a log, at the service's ceilings.
-pub fn link_count(log: &[u32]) -> LinkCount
+pub fn link_count(log: &[u32]) -> Result<usize, Refusal>
     ensures { count_answer result ≡ count_asked service log.now }
 {
     link_count_within(logs::service_ceilings(), log)

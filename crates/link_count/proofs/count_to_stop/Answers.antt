@@ -1,5 +1,7 @@
 use native.Mathlib.Omega.{arith}
-use mathlib.Core.Path.{◌≡◌, ◌∙◌, sym}
+use mathlib.Core.Path.{◌≡◌, ◌∙◌, sym, ap}
+use Rattle.std.specs.Prelude.{Ok}
+use Rattle.std.proofs.Common.{rules}
 use mathlib.Core.Bool.{true}
 use mathlib.Core.List.{List}
 use Prim.Native.Nat.{ℕ, ◌+◌, ◌-◌, ◌*◌, ◌≤◌, ◌<◌}
@@ -13,22 +15,20 @@ use Rattle.logs.proofs.Laws.{pass_from, pass_to}
 use Rattle.bits.specs.Bits.{bit, BitSet}
 use Rattle.link_count.proofs.Counting.{Counting, counting_start, counting_from, counting_to}
 use Rattle.link_count.proofs.count_to_stop.Goals as goal
-use Rattle.link_count.proofs.count_to_stop.Goals.{then-at-last, else-at-last+in_default, else-at-last+in-Taken+in_default-to_word}
+use Rattle.link_count.proofs.count_to_stop.Goals.{then-at-last, else-at-last+in_default, else-at-last+in_default-2, else-at-last+in-Ok-From+in_default-to_word}
 
 pub log-init : goal.log-init
 log-init c =
     (first_group _ _ _ c.requires.0, omega arith, omega arith, omega arith, rw c.requires.2 (counting_start c.args.log.now c.requires.0))
 
 -- the from word at `at` is taken: it gives an episode
-episode : (c : goal.In-Taken)
+episode : (c : goal.In-Ok-From)
     → (kind (get_or c.args.log.now c.log.at 0) ≡ 2)
-    × (c.in-Taken.from ≡ number (get_or c.args.log.now c.log.at 0))
-    × (c.in-Taken.from < c.args.n)
+    × (c.in-Ok-From.from ≡ number (get_or c.args.log.now c.log.at 0))
+    × (c.in-Ok-From.from < c.args.n)
 episode c =
-    let a = c.args in
     let at = c.log in
-    from_episode a.most a.log.now a.n at.at (at.at - at.others) c.group_word.result c.in-Taken.field-0 c.in-Taken.from at.invariant.0
-    (omega arith) c.group_word.ensures c.in-Taken.field-2 c.in-Taken.is
+    from_episode _ _ _ at.at (at.at - at.others) at.invariant.0 (omega arith) _ c.group_word.ensures _ (c.in-Ok-From.is ∙ ap Ok c.in-Ok-From.field-0-is)
 
 pub overflow_mul-row : goal.overflow_mul-row
 overflow_mul-row c = omega (arith, (episode c).2, c.requires.1)
@@ -37,9 +37,7 @@ pub loop-to-init : goal.loop-to-init
 loop-to-init c =
     let a = c.args in
     let at = c.log in
-    let (in_group, to_kind) =
-    from_taken a.most a.log.now a.n at.at (at.at - at.others) c.group_word.result c.in-Taken.field-0 c.in-Taken.from at.invariant.0
-    (omega arith) c.group_word.ensures c.in-Taken.field-2 c.in-Taken.is in
+    let (in_group, to_kind) = from_taken _ _ _ at.at (at.at - at.others) at.invariant.0 (omega arith) _ c.group_word.ensures _ (c.in-Ok-From.is ∙ ap Ok c.in-Ok-From.field-0-is) in
     let same : at.at - at.others ≡ at.at + 1 - (at.others + 1) = omega arith in
     let (from_kind, from, low) = episode c in
     let near = (pass_from a.log.now at.at at.invariant.0.behind_head at.invariant.0.within from_kind).1 in (
@@ -69,17 +67,16 @@ pub log-preserved : goal.log-preserved
 log-preserved c =
     let a = c.args in
     let at = c.loop-to in
-    let w = c.in-Taken-to_word in
     let others : ℕ = c.log.others + 1 in
     let behind : 0 < at.at = omega (arith, at.invariant.0.behind_from) in
     let group =
-    group_by_others a.most a.log.now a.n at.at others (omega arith)
-    (to_taken a.most a.log.now a.n at.at (at.at - others) c.to_word.result w.field-0 w.to at.invariant.0 at.invariant.1 c.to_word.ensures w.field-2 w.is) in
-    let episode = to_episode_lem a.most a.log.now a.n at.at (at.at - others) c.to_word.result w.field-0 w.to at.invariant.0 at.invariant.1 c.to_word.ensures w.field-2 w.is in
+    group_by_others _ _ _ at.at others (omega arith)
+    (to_taken _ _ _ at.at (at.at - others) at.invariant.0 at.invariant.1 _ c.to_word.ensures _ c.in-Ok.is) in
+    let episode = to_episode_lem _ _ _ at.at (at.at - others) at.invariant.0 at.invariant.1 _ c.to_word.ensures _ c.in-Ok.is in
     let (counting, row, near) =
-    counted a.log.now a.n at.at (8 * c.in-Taken.from) w.to c.mark-links.result at.links at.seen c.mark-links.new.seen c.requires.1 behind at.invariant.0.within at.invariant.1
+    counted a.log.now a.n at.at (8 * c.in-Ok-From.from) c.in-Ok.to.episode c.mark-links.result at.links at.seen c.mark-links.new.seen c.requires.1 behind at.invariant.0.within at.invariant.1
     at.invariant.5 at.invariant.6 at.invariant.7 episode c.mark-links.ensures in (
-      group_ends a.most a.log.now a.n _ _ group (sym c.to_before_last.ensures ∙ c.if-not-to_before_last.true),
+      group_ends _ _ _ _ _ group (sym c.to_before_last.ensures ∙ c.if-not-to_before_last.true),
       omega arith,
       omega arith,
       omega (arith, c.mark-links.ensures.1),
@@ -90,15 +87,14 @@ pub loop-to-preserved : goal.loop-to-preserved
 loop-to-preserved c =
     let a = c.args in
     let at = c.loop-to in
-    let w = c.in-Taken-to_word in
     let others : ℕ = c.log.others + 1 in
     let behind : 0 < at.at = omega (arith, at.invariant.0.behind_from) in
     let group =
-    group_by_others a.most a.log.now a.n at.at others (omega arith)
-    (to_taken a.most a.log.now a.n at.at (at.at - others) c.to_word.result w.field-0 w.to at.invariant.0 at.invariant.1 c.to_word.ensures w.field-2 w.is) in
-    let episode = to_episode_lem a.most a.log.now a.n at.at (at.at - others) c.to_word.result w.field-0 w.to at.invariant.0 at.invariant.1 c.to_word.ensures w.field-2 w.is in
+    group_by_others _ _ _ at.at others (omega arith)
+    (to_taken _ _ _ at.at (at.at - others) at.invariant.0 at.invariant.1 _ c.to_word.ensures _ c.in-Ok.is) in
+    let episode = to_episode_lem _ _ _ at.at (at.at - others) at.invariant.0 at.invariant.1 _ c.to_word.ensures _ c.in-Ok.is in
     let (counting, row, near) =
-    counted a.log.now a.n at.at (8 * c.in-Taken.from) w.to c.mark-links.result at.links at.seen c.mark-links.new.seen c.requires.1 behind at.invariant.0.within at.invariant.1
+    counted a.log.now a.n at.at (8 * c.in-Ok-From.from) c.in-Ok.to.episode c.mark-links.result at.links at.seen c.mark-links.new.seen c.requires.1 behind at.invariant.0.within at.invariant.1
     at.invariant.5 at.invariant.6 at.invariant.7 episode c.mark-links.ensures in (
       group,
       sym c.to_before_last.ensures ∙ c.if-not-to_before_last.false,
@@ -113,30 +109,37 @@ loop-to-preserved c =
 -- the loops are left at the last word, at a word where a group begins, or at a to word of a group
 pub returns : goal.returns
 returns c =
-    let a = c.args in
     let at = c.log in
     elim c.if-at-last.branch [
       | then-at-last u ↦
           rw (u.links-is, u.others-is, u.place-is)
           (record {
-            stopped = at_last a.most a.log.now a.n at.at (at.at - at.others) at.invariant.0 (omega (arith, u.if-at-last.true));
+            stopped = at_last _ _ _ at.at (at.at - at.others) at.invariant.0 (omega (arith, u.if-at-last.true));
             counted = at.invariant.4.count;
           })
       | else-at-last+in_default u ↦
           rw (u.links-is, u.others-is, u.place-is)
           (record {
             stopped =
-                from_given_up a.most a.log.now a.n at.at (at.at - at.others) u.group_word.result u.in_default.field-0 u.in_default.field-1 at.invariant.0
-                (omega (arith, u.if-at-last.false)) u.group_word.ensures u.in_default.is;
+                from_given_up _ _ _ at.at (at.at - at.others) at.invariant.0 (omega (arith, u.if-at-last.false)) _ u.group_word.ensures
+                (λ x is. let h = u.in_default.is in absurd (search rules));
             counted = at.invariant.4.count;
           })
-      | else-at-last+in-Taken+in_default-to_word u ↦
+      | else-at-last+in_default-2 u ↦
+          rw (u.links-is, u.others-is, u.place-is)
+          (record {
+            stopped =
+                from_given_up _ _ _ at.at (at.at - at.others) at.invariant.0 (omega (arith, u.if-at-last.false)) _ u.group_word.ensures
+                (λ x is. let h = u.in_default.is in cc);
+            counted = at.invariant.4.count;
+          })
+      | else-at-last+in-Ok-From+in_default-to_word u ↦
           let others : ℕ = at.others + 1 in
           rw (u.links-is, u.others-is, u.place-is)
           (record {
             stopped =
-                to_given_up a.most a.log.now a.n u.loop-to.at (u.loop-to.at - others) u.to_word.result u.in_default-to_word.field-0 u.in_default-to_word.field-1
-                u.loop-to.invariant.0 u.loop-to.invariant.1 u.to_word.ensures u.in_default-to_word.is;
+                to_given_up _ _ _ u.loop-to.at (u.loop-to.at - others) u.loop-to.invariant.0 u.loop-to.invariant.1 _ u.to_word.ensures _
+                u.in_default-to_word.is;
             counted = u.loop-to.invariant.5.count;
           })
     ]
