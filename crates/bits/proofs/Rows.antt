@@ -1,6 +1,9 @@
 -- Laws of bits in a list of words: after a word is stored or copied, of the first bit, and of the first new one.
 use mathlib.Core.Path.{◌≡◌, refl, sym, ap, ap₂, ◌∙◌}
 use mathlib.Core.Logic.{◌≢◌}
+use mathlib.Core.Bool.{true, false, true≢false}
+use lib.Dec.{eqb}
+use Rattle.std.proofs.lemmas.Bool.{eqb-true, eq-eqb}
 use mathlib.Core.List.{List}
 use Prim.Native.Nat.{ℕ, zero, suc, ◌+◌, ◌-◌, ◌*◌, ◌/◌, ◌%◌, ◌^◌, ◌≤◌, ◌<◌, max}
 use native.Mathlib.Decide.{dec_lt, ℕ_discrete}
@@ -17,6 +20,15 @@ use Rattle.bits.proofs.Digits.{mask, digit_lt, digit_or, digit_xor, digit_shr, d
 pub bit_lt : (w : List ℕ) (row b : ℕ) → bit w row b < 2
 unfolding bit
 bit_lt w row b = digit_lt (get_or w (row + b / 32) 0) (b % 32)
+
+-- what the test of a bit tells
+pub bit_here : (w : List ℕ) (row b : ℕ) → true ≡ eqb (bit w row b) 1 → bit w row b ≡ 1
+bit_here w row b e = eqb-true (bit w row b) 1 (sym e)
+
+pub bit_unset : (w : List ℕ) (row b : ℕ) → false ≡ eqb (bit w row b) 1 → bit w row b ≡ 0
+bit_unset w row b e =
+    let not_one : bit w row b ≡ 1 → ⊥ = λ o. true≢false (sym (eq-eqb (bit w row b) 1 o) ∙ sym e) in
+    omega (arith, bit_lt w row b, not_one)
 
 -- a bit is what its word makes it
 pub bit_word : (w w' : List ℕ) (row b : ℕ) → get_or w' (row + b / 32) 0 ≡ get_or w (row + b / 32) 0 → bit w' row b ≡ bit w row b

@@ -1,14 +1,15 @@
 -- From the links of a log to its ways.
-use mathlib.Core.Path.{◌≡◌, ap, ◌∙◌}
-use mathlib.Core.List.{List}
-use Prim.Native.Nat.{ℕ, ◌+◌, ◌*◌, ◌/◌, ◌%◌, ◌^◌, ◌≤◌, ◌<◌}
+use mathlib.Core.Path.{◌≡◌, refl, sym, ap, ◌∙◌}
+use mathlib.Core.List.{List, ◌++◌}
+use Prim.Native.Nat.{ℕ, ◌+◌, ◌-◌, ◌*◌, ◌/◌, ◌%◌, ◌^◌, ◌≤◌, ◌<◌}
 use native.Mathlib.Omega.{arith}
+use lib.ListN.{length, get_or, length-append, get_or-append}
+use lib.Seq.{get_or-append-add, get_or-append_right}
 use Rattle.paths.specs.Graph.{Graph, EndsBelow, Link}
 use Rattle.logs.specs.Log.{graph_of, PassedLog}
 use Rattle.logs.proofs.Laws.{links_below}
 use Rattle.bits.specs.Bits.{bit}
-use Rattle.bits.specs.Work.{links_at, ways_at, matrix_words, Matrix}
-use Rattle.bits.proofs.Rows.{Copying}
+use Rattle.bits.specs.Work.{links_at, ways_at, matrix_words, Matrix, next_at}
 use Rattle.bits.proofs.Frames.{outside_then, outside_wider, matrix_before}
 use Rattle.rising.specs.Rising.{NoWays, BitsRise, LinksRise, RisingReached}
 use Rattle.reach.specs.Reach.{NoneMarked, LinksMarked, LinksCopied, Closed, WaysReached, ReachedLog}
@@ -26,12 +27,39 @@ rising_reached w w' n few rise r =
 
 -- ---- other links: copied and closed
 
-pub copying_end : (w w' : List ℕ) (i : ℕ) → i ≡ matrix_words → Copying w w' ways_at links_at i → LinksCopied w w'
-copying_end w w' i h s =
+-- the words of the links, `links`, take the place of those of the ways
+pub copied : {w : List ℕ} (links ways ways' rest : List ℕ) → w ≡ links ++ (ways ++ rest) → length links ≡ matrix_words → length ways ≡ matrix_words → ways' ≡ links
+    → LinksCopied w (links ++ (ways' ++ rest))
+copied {w} links ways ways' rest e many many' same =
     record {
-      outside = record { same_length = s.same_length; before = s.before; behind = λ j l. s.behind j (omega arith) };
-      words = λ j l. s.done j (omega arith);
+      outside =
+          record {
+            same_length =
+                ap length (ap (λ l. links ++ (l ++ rest)) same) ∙ omega (
+                  arith,
+                  ap length e,
+                  length-append links (links ++ rest),
+                  length-append links rest,
+                  length-append links (ways ++ rest),
+                  length-append ways rest,
+                );
+            before = λ i h. first i (omega arith) ∙ sym (ap (λ l. get_or l i 0) e ∙ get_or-append links (ways ++ rest) 0 i (omega arith));
+            behind = λ i h. last ways' i (ap length same ∙ many) h ∙ sym (ap (λ l. get_or l i 0) e ∙ last ways i many' h);
+          };
+      words = λ i h.
+          let j : length links + i ≡ ways_at + i = omega arith in
+          let k : links_at + i ≡ i = omega arith in
+          rw j at (get_or-append-add links (ways' ++ rest) i 0) ∙ get_or-append ways' rest 0 i (omega (arith, ap length same)) ∙ ap (λ l. get_or l i 0) same
+          ∙ sym (ap (λ m. get_or w m 0) k ∙ ap (λ l. get_or l i 0) e ∙ get_or-append links (ways ++ rest) 0 i (omega arith));
     }
+  where
+    first : (i : ℕ) → i < matrix_words → get_or (links ++ (ways' ++ rest)) i 0 ≡ get_or links i 0
+    first i h = get_or-append links (ways' ++ rest) 0 i (omega arith)
+
+    last : (v : List ℕ) (i : ℕ) → length v ≡ matrix_words → next_at ≤ i → get_or (links ++ (v ++ rest)) i 0 ≡ get_or rest (i - matrix_words - matrix_words) 0
+    last v i n h =
+        get_or-append_right links (v ++ rest) i 0 (omega arith) ∙ get_or-append_right v rest (i - length links) 0 (omega arith)
+        ∙ rw (many, n) refl
 
 -- a copied matrix holds the same
 matrix_copied : {w w' : List ℕ} {R : ℕ → ℕ → Type 0} → LinksCopied w w' → Matrix links_at w R → Matrix ways_at w' R

@@ -2,17 +2,16 @@
 use mathlib.Core.Path.{◌≡◌, refl, sym, ◌∙◌, subst}
 use mathlib.Core.Logic.{◌⊎◌, ⊎_elim, inl, inr}
 use mathlib.Core.List.{List}
-use Prim.Native.Nat.{ℕ, suc, ◌+◌, ◌*◌, ◌/◌, ◌≤◌, ◌<◌}
+use Prim.Native.Nat.{ℕ, suc, ◌+◌, ◌*◌, ◌≤◌, ◌<◌}
 use native.Mathlib.Decide.{ℕ_discrete}
 use native.Mathlib.Numerals.{add-one}
 use native.Mathlib.Omega.{arith}
-use lib.ListN.{replicate, get_or-replicate}
 use Rattle.paths.specs.Graph.{Graph, EndsBelow, Link}
 use Rattle.paths.specs.Closure.{WayBelow}
 use Rattle.paths.proofs.Ways.{below_way, way_below, way_first}
-use Rattle.bits.specs.Bits.{bit, RowAdded, RowGained}
+use Rattle.bits.specs.Bits.{bit, RowTaken, RowGained}
 use Rattle.bits.specs.Work.{ways_at, Matrix, Outside, next_at}
-use Rattle.bits.proofs.Rows.{bit_lt, bits_zero}
+use Rattle.bits.proofs.Rows.{bit_lt}
 use Rattle.reach.specs.Reach.{HoldsWays, RowClosed, RoundClosed, Closed}
 use Rattle.bits.proofs.Frames.{outside_none, outside_then, outside_wider, gained_outside, row_other}
 
@@ -108,14 +107,12 @@ pub record InRound (w w' v : List ℕ) (n k a : ℕ) : Type 0 where
   pub held : HoldsWays w' k v
   pub ways : (g : Graph) → Matrix ways_at w (WayBelow g k) → Matrix ways_at w' (By (WayBelow g k) k a)
 
-pub round_start : (w v₀ v : List ℕ) (n k : ℕ) → v₀ ≡ replicate 8 0 → RowAdded w (ways_at + 8 * k) v₀ v → InRound w w v n k 0
-round_start w v₀ v n k e q =
+pub round_start : (w v : List ℕ) (n k : ℕ) → RowTaken w (ways_at + 8 * k) v → InRound w w v n k 0
+round_start w v n k q =
     record {
       outside = outside_none ways_at next_at w;
       at_most = omega arith;
-      held = λ b hb.
-          let z = bits_zero v₀ 0 b (rw e (get_or-replicate 8 (0 + b / 32) 0 0 (omega arith))) in
-          omega (arith, q.joined b hb);
+      held = q.taken;
       ways = λ g m.
           record {
             sound = λ x y hx hy o. inl (m.sound x y hx hy o);

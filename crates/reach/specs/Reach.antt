@@ -1,5 +1,5 @@
 -- What the steps from a log to its matrix of ways leave.
-use Rattle.std.specs.Prelude.{◌≡◌, ℕ, ◌+◌, ◌*◌, ◌≤◌, ◌<◌, max, min, get_or}
+use Rattle.std.specs.Prelude.{◌≡◌, Option, Some, None, ℕ, ◌+◌, ◌*◌, ◌≤◌, ◌<◌, max, min, get_or}
 use mathlib.Core.List.{List, Memᴰ as Mem}
 use Rattle.paths.specs.Graph.{Graph, EndsBelow, Link, Way}
 use Rattle.paths.specs.Closure.{WayBelow}
@@ -62,6 +62,11 @@ pub record ReachedLog (l w w' : List ℕ) : Type 0 where
   pub outside : Outside links_at next_at w w'
   pub links : Matrix links_at w' (Link (graph_of l))
   pub ways : Matrix ways_at w' (Way (graph_of l))
+
+-- the episode that is found, or `n` where there is none
+abbrev pub episode_or : ℕ → Option ℕ → ℕ
+episode_or n (Some v) = v
+episode_or n None = n
 
 -- `r` is the first episode that has a way to itself, or `n`
 pub record FirstLoop (w : List ℕ) (n r : ℕ) : Type 0 where

@@ -1,15 +1,16 @@
 // Who has a way to whom: the links of a log as a matrix of bits, and its closure.
 #![tactic(auto)]
 
-ghost use Rattle.std.specs.Prelude.{◌≡◌, true, false, ◌+◌, ◌*◌, ◌<◌, ◌≤◌, length};
+ghost use Rattle.std.specs.Prelude.{◌≡◌, true, false, ◌+◌, ◌*◌, ◌<◌, ◌≤◌, IfSome, length};
 ghost use Rattle.logs.specs.Log.{to_before_last, graph_of, PassedLog};
 ghost use Rattle.logs.specs.Groups.{nearest_from};
 ghost use Rattle.bits.specs.Work.{links_at, next_at};
 ghost use Rattle.rising.specs.Rising.{NoWays};
 ghost use Rattle.reach.specs.Reach.{NoneMarked, GroupMarked, LinksMarked, LinksCopied, HoldsWays, RowClosed, RoundClosed, Closed, WaysReached};
-ghost use Rattle.reach.specs.Reach.{ReachedLog, FirstLoop};
+ghost use Rattle.reach.specs.Reach.{ReachedLog, FirstLoop, episode_or};
 
 use bits::{LINKS, WAYS};
+use logs::ToWord;
 
 // Marks the to words of a group, the first of which stands at `start`, in the row of their from word, which starts at word `row`, and gives
 // the place behind them.
@@ -20,7 +21,7 @@ fn mark_group(log: &[u32], start: usize, row: usize, w: &mut [u32]) -> usize
 {
     let mut at = start;
     loop {
-        let to = logs::to_word_of(log[at]);
+        let to = ToWord::from(log[at]);
         bits::set_bit(w, row, to.episode);
         at += 1;
         if !logs::to_before_last(log, at) {
@@ -48,11 +49,9 @@ fn copy_links(w: &mut [u32])
     requires { next_at ≤ length w.old }
     ensures { LinksCopied w.old w.new }
 {
-    let mut i = 0;
-    while i < WAYS {
-        w[WAYS + i] = w[LINKS + i];
-        i += 1;
-    }
+    let (links, rest) = w.split_at_mut(WAYS);
+    let (ways, _) = rest.split_at_mut(WAYS);
+    ways.copy_from_slice(links);
 }
 
 // Where `a` has a way to `k`, gives it the ways of `k`, which are `ways`.
@@ -61,7 +60,7 @@ fn close_row(w: &mut [u32], a: usize, k: usize, ways: &[u32])
     ensures { RowClosed w.old w.new a k }
 {
     let row = WAYS + 8 * a;
-    if bits::bit_at(w, row, k) == 1 {
+    if bits::bit_at(w, row, k) {
         bits::join_from(ways, w, row);
     }
 }
@@ -71,12 +70,9 @@ fn close_round(w: &mut [u32], n: usize, k: usize)
     requires { (next_at ≤ length w.old) × (n ≤ 256) × (k < n) }
     ensures { RoundClosed w.old w.new n k }
 {
-    let mut ways = [0u32; 8];
-    bits::join_into(w, WAYS + 8 * k, &mut ways);
-    let mut a = 0;
-    while a < n {
+    let ways = bits::row_at(w, WAYS + 8 * k);
+    for a in 0..n {
         close_row(w, a, k, &ways);
-        a += 1;
     }
 }
 
@@ -85,10 +81,8 @@ fn close(w: &mut [u32], n: usize)
     requires { (next_at ≤ length w.old) × (n ≤ 256) }
     ensures { Closed w.old w.new n }
 {
-    let mut k = 0;
-    while k < n {
+    for k in 0..n {
         close_round(w, n, k);
-        k += 1;
     }
 }
 
@@ -114,17 +108,16 @@ pub fn reachability(log: &[u32], n: usize, w: &mut [u32])
     reach_ways(w, n);
 }
 
-// The first episode that has a way to itself, or `n`.
-pub fn first_loop(w: &[u32], n: usize) -> usize
+// The first episode that has a way to itself.
+pub fn first_loop(w: &[u32], n: usize) -> Option<usize>
     requires { (next_at ≤ length w.now) × (n ≤ 256) }
-    ensures { FirstLoop w.now n result }
+    ensures first { FirstLoop w.now n (episode_or n result) }
+    ensures below { IfSome result (λ v. v < n) }
 {
-    let mut v = 0;
-    while v < n {
-        if bits::bit_at(w, WAYS + 8 * v, v) == 1 {
-            return v;
+    for v in 0..n {
+        if bits::bit_at(w, WAYS + 8 * v, v) {
+            return Some(v);
         }
-        v += 1;
     }
-    n
+    None
 }

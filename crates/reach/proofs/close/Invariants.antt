@@ -1,11 +1,7 @@
 -- `reach::close` meets its contract. The invariant: the ways with inner episodes below `k` are marked.
 -- Assumes nothing.
-use Prim.Native.Nat.{◌-◌}
 use Rattle.reach.proofs.Rounds.{InClosure}
 use Rattle.reach.proofs.close.Given as goal
 
 abbrev pub invariant-loop-k : goal.invariant-loop-k
 invariant-loop-k l = InClosure l.initial.w l.w l.n l.k
-
-abbrev pub decreases-loop-k : goal.decreases-loop-k
-decreases-loop-k l = l.n - l.k

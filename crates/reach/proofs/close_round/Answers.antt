@@ -1,21 +1,15 @@
-use mathlib.Core.Path.{refl}
 use native.Mathlib.Omega.{arith}
 use Rattle.reach.proofs.Rounds.{round_start, round_row, round_end}
 use Rattle.reach.proofs.close_round.Goals as goal
 
 pub loop-a-init : goal.loop-a-init
-loop-a-init c =
-    let row = c.join_into in
-    round_start c.args.w.now _ row.new.v c.args.n c.args.k refl row.ensures
-
-pub close_row-requires : goal.close_row-requires
-close_row-requires c = (omega arith, omega arith, omega arith, omega arith, c.loop-a.invariant.held)
+loop-a-init c = round_start c.args.w.now _ c.args.n c.args.k c.row_at-ways.ensures
 
 pub loop-a-preserved : goal.loop-a-preserved
 loop-a-preserved c =
-    round_row c.args.w.now c.loop-a.w c.close_row.new.w c.join_into.new.v c.args.n c.args.k c.loop-a.a
+    round_row c.args.w.now c.loop-a.w c.close_row.new.w _ c.args.n c.args.k c.loop-a.a
     (omega arith) (omega arith) (omega arith) c.loop-a.invariant c.close_row.ensures
 
 pub returns : goal.returns
 returns c =
-    round_end c.args.w.now c.loop-a.w c.join_into.new.v c.args.n c.args.k c.loop-a.a (omega arith) c.loop-a.invariant
+    round_end c.args.w.now c.loop-a.w _ c.args.n c.args.k c.loop-a.a (omega arith) c.loop-a.invariant

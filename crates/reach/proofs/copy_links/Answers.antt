@@ -1,18 +1,13 @@
-use native.Mathlib.Omega.{arith}
-use Rattle.bits.specs.Work.{links_at, ways_at, matrix_words}
-use Rattle.bits.proofs.Rows.{copying_none, copying_more}
-use Rattle.reach.proofs.Reached.{copying_end}
+-- `reach::copy_links` meets its contract: the links and the ways are two parts of the words, and the first is copied over the second.
+-- Assumes nothing.
+use mathlib.Core.Path.{◌∙◌, ap}
+use mathlib.Core.List.{◌++◌}
+use Rattle.reach.proofs.Reached.{copied}
 use Rattle.reach.proofs.copy_links.Goals as goal
-
-pub loop-i-init : goal.loop-i-init
-loop-i-init c = (omega arith, copying_none _ _ _)
-
-pub loop-i-preserved : goal.loop-i-preserved
-loop-i-preserved c =
-    let at = c.loop-i in
-    (omega arith, copying_more c.args.w.now at.w ways_at links_at matrix_words at.i (omega arith) (omega arith) (omega arith) at.invariant.1)
 
 pub returns : goal.returns
 returns c =
-    let at = c.loop-i in
-    copying_end c.args.w.now at.w at.i (omega arith) at.invariant.1
+    let p = c.split_at_mut-links in
+    let q = c.split_at_mut-ways in
+    copied p.result.0.now q.result.0.now _ q.result.1.now (p.ensures.value ∙ ap (λ l. p.result.0.now ++ l) q.ensures.value) p.ensures.front_len q.ensures.front_len
+    c.copy_from_slice.ensures.after

@@ -8,7 +8,7 @@ loop-preserved c =
     let at = c.loop in
     let marked =
     group_more a.log.now a.start at.at a.w.now at.w c.set_bit.new.w c.requires.0 c.requires.1 c.requires.4 at.invariant.0 at.invariant.1
-    (rw (c.requires.3, c.to_word_of-to.ensures.0) at c.set_bit.ensures) in
+    (rw (c.requires.3, c.from-to.ensures.0) at c.set_bit.ensures) in
     (marked, sym c.to_before_last.ensures ∙ c.if-not-to_before_last.false)
 
 pub returns : goal.returns
@@ -17,5 +17,5 @@ returns c =
     let at = c.loop in
     let marked =
     group_more a.log.now a.start at.at a.w.now at.w c.set_bit.new.w c.requires.0 c.requires.1 c.requires.4 at.invariant.0 at.invariant.1
-    (rw (c.requires.3, c.to_word_of-to.ensures.0) at c.set_bit.ensures) in
+    (rw (c.requires.3, c.from-to.ensures.0) at c.set_bit.ensures) in
     (marked, sym c.to_before_last.ensures ∙ c.if-not-to_before_last.true)
