@@ -8,11 +8,11 @@ use native.Mathlib.Decide.{ℕ_discrete}
 use native.Mathlib.Omega.{arith}
 use lib.ListN.{length, get_or}
 use Rattle.logs.specs.Words.{kind, number, to_episode}
-use Rattle.logs.specs.Log.{to_before_last, PassedLog}
-use Rattle.logs.specs.Groups.{heard_before, nearest_from, ToWords}
+use Rattle.logs.specs.Log.{to_before_last, PassedLog, Passes}
+use Rattle.logs.specs.Groups.{heard_before, nearest_from, ToWords, Starts}
 use Rattle.logs.proofs.Asked.{to_there, there_to}
 use Rattle.logs.proofs.Laws.{from_word_below, to_word_below, pass_from, pass_to}
-use Rattle.logs.proofs.WellFormed.{well_formed}
+use Rattle.logs.proofs.WellFormed.{well_formed, passes_own}
 
 -- from one place up to another
 up : (P : ℕ → Type 0) (a b : ℕ) → a ≤ b → P a → ((p : ℕ) → a ≤ p → p < b → P p → P (p + 1)) → P b
@@ -61,29 +61,45 @@ module _ (l : List ℕ) (start : ℕ) where
     nearest_same behind =
         along (λ q. nearest_from l q ≡ nearest_from l start) refl (λ q a inner k h. (pass_to l q (omega arith) (omega arith) k).1 ∙ h)
 
--- a group starts at `p`, or the last word stands there
-pub record GroupHere (l : List ℕ) (p : ℕ) : Type 0 where
-  pub behind : 0 < p
-  pub within : p < length l
-  pub starts : p + 1 < length l → kind (get_or l p 0) ≡ 2
+abbrev pub GroupHere : List ℕ → ℕ → Type 0
+GroupHere = Starts
 
--- of a log that passes
-module _ (l : List ℕ) (passed : PassedLog l) where
+-- of a log that passes with `n` episodes and `t` to words
+module _ (l : List ℕ) (n t : ℕ) (e : Passes l n t) where
   -- a group starts behind the head
-  pub first_here : GroupHere l 1
-  first_here =
-      let (m, n, t, e, few) = passed in
-      let f = well_formed m l n t e in
+  pub starts_first : Starts l 1
+  starts_first =
+      let f = well_formed _ l n t e in
       let long = f.long in
       record { behind = omega arith; within = omega arith; starts = λ h. f.starts (omega arith) }
 
-  module _ (p : ℕ) (s : GroupHere l p) (inner : p + 1 < length l) where
+  -- behind a from word stands a to word, and the last word behind that
+  pub to_behind : (p : ℕ) → Starts l p → p + 1 < length l → (p + 2 < length l) × (to_before_last l (p + 1) ≡ true)
+  to_behind p s inner =
+      let (more, k) = (well_formed _ l n t e).follows p s.behind inner (s.starts inner) in
+      (more, there_to l (p + 1) (omega arith) k)
+
+  -- behind the to words of a group another starts
+  pub starts_next : (start p : ℕ) → 0 < start → ToWords l start p → to_before_last l p ≡ false → Starts l p
+  starts_next start p behind s other =
+      let before = s.start_before in
+      record {
+        behind = omega arith;
+        within = s.within;
+        starts = λ inner.
+            ⊎_elim (λ k. k) (λ k. absurd (true≢false (sym (there_to l p inner k) ∙ other))) ((well_formed _ l n t e).between p (omega arith) inner);
+      }
+
+-- of a log that passes with 256 episodes at the most
+module _ (l : List ℕ) (passed : PassedLog l) where
+  -- a group starts behind the head
+  pub first_here : Starts l 1
+  first_here = let (m, n, t, e, few) = passed in starts_first l n t (passes_own m l n t e)
+
+  module _ (p : ℕ) (s : Starts l p) (inner : p + 1 < length l) where
     -- its from word is followed by a to word
     pub to_follows : to_before_last l (p + 1) ≡ true
-    to_follows =
-        let (m, n, t, e, few) = passed in
-        let (more, k) = (well_formed m l n t e).follows p s.behind inner (s.starts inner) in
-        there_to l (p + 1) (omega arith) k
+    to_follows = let (m, n, t, e, few) = passed in (to_behind l n t (passes_own m l n t e) p s inner).1
 
     -- it gives no link, is the nearest from word there, and gives an episode
     pub from_passed : (heard_before l (p + 1) ≡ heard_before l p) × (nearest_from l (p + 1) ≡ number (get_or l p 0)) × (number (get_or l p 0) < 256)
@@ -100,12 +116,5 @@ module _ (l : List ℕ) (passed : PassedLog l) where
       to_word_below l passed p (omega arith) there.0 there.1
 
   -- behind the to words of a group another starts
-  pub next_here : (start p : ℕ) → 0 < start → ToWords l start p → to_before_last l p ≡ false → GroupHere l p
-  next_here start p behind s other =
-      let (m, n, t, e, few) = passed in
-      let before = s.start_before in
-      record {
-        behind = omega arith;
-        within = s.within;
-        starts = λ inner. ⊎_elim (λ k. k) (λ k. absurd (true≢false (sym (there_to l p inner k) ∙ other))) ((well_formed m l n t e).between p (omega arith) inner);
-      }
+  pub next_here : (start p : ℕ) → 0 < start → ToWords l start p → to_before_last l p ≡ false → Starts l p
+  next_here start p behind s other = let (m, n, t, e, few) = passed in starts_next l n t (passes_own m l n t e) start p behind s other

@@ -1,6 +1,6 @@
 -- The groups of a log: what the words before a place give, and the to words of a group.
-use Rattle.std.specs.Prelude.{◌≡◌, true, false, List, [], ◌∷◌, map, ℕ, ◌≤◌, ◌<◌, length, take, drop}
-use Rattle.logs.specs.Words.{number}
+use Rattle.std.specs.Prelude.{◌≡◌, true, false, List, [], ◌∷◌, map, ℕ, ◌+◌, ◌≤◌, ◌<◌, length, get_or, take, drop}
+use Rattle.logs.specs.Words.{kind, number}
 use Rattle.logs.specs.Content.{Heard, joins}
 use Rattle.logs.specs.Log.{is_from, to_before_last, heard_from}
 
@@ -28,3 +28,9 @@ pub record ToWords (l : List ℕ) (start p : ℕ) : Type 0 where
   pub start_before : start ≤ p
   pub within : p < length l
   pub each : (q : ℕ) → start ≤ q → q < p → to_before_last l q ≡ true
+
+-- a group starts at place `p`, or the last word stands there
+pub record Starts (l : List ℕ) (p : ℕ) : Type 0 where
+  pub behind : 0 < p
+  pub within : p < length l
+  pub starts : p + 1 < length l → kind (get_or l p 0) ≡ 2

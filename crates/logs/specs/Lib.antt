@@ -6,3 +6,4 @@ pub mod Log
 pub mod Earlier
 pub mod Places
 pub mod Groups
+pub mod Passing

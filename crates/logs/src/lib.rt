@@ -8,6 +8,9 @@ ghost use Rattle.logs.specs.Log.{service, to_before_last, head_word, group_word,
 ghost use Rattle.logs.specs.Places.{log_word_at, Stopped};
 ghost use Rattle.logs.specs.Groups.{ToWords};
 
+pub mod passed;
+
+pub use passed::{Group, Log};
 use std::error::Error;
 use std::fmt;
 

@@ -1,0 +1,80 @@
+// A log that has passed questions 1 to 10, and its groups.
+ghost use Rattle.std.specs.Prelude.{◌≡◌, ◌-◌, IfOk, length};
+ghost use Rattle.std.specs.Iterator.{at_most};
+ghost use Rattle.logs.specs.Answer.{result_answer};
+ghost use Rattle.logs.specs.Log.{questions, Passes};
+ghost use Rattle.logs.specs.Groups.{Starts};
+
+use crate::{Ceilings, Refusal, group_end, number_of, read_within};
+
+// A log that passes questions 1 to 10: its words, and its counts of episodes and of to words.
+#[derive(Clone, Copy)]
+pub struct Log<'a> {
+    pub words: &'a [u32],
+    pub episodes: usize,
+    pub to_words: usize,
+    ghost passes: { Passes words.now episodes to_words },
+}
+
+impl<'a> Log<'a> {
+    // Questions 1 to 10, at a caller's ceilings.
+    pub fn read(most: Ceilings, words: &'a [u32]) -> Result<Log<'a>, Refusal>
+        ensures answer { result_answer (λ l. (l.episodes, l.to_words)) result ≡ questions most words.now }
+        ensures same { IfOk result (λ l. l.words.now ≡ words.now) }
+    {
+        let reading = read_within(most, words)?;
+        Ok(Log {
+            words,
+            episodes: reading.episodes,
+            to_words: reading.to_words,
+        })
+    }
+}
+
+// A group of a log: the episode of its from word, and its to words.
+#[derive(Clone, Copy)]
+pub struct Group<'a> {
+    pub from: usize,
+    pub to_words: &'a [u32],
+}
+
+// The groups of a log from place `at` on: one starts there, or the last word stands there.
+#[derive(Clone, Copy)]
+pub struct Groups<'a> {
+    pub log: Log<'a>,
+    pub at: usize,
+    ghost here: { Starts log.words.now at },
+}
+
+impl<'a> Log<'a> {
+    // The groups, in order.
+    pub fn groups(self) -> Groups<'a>
+        ensures { (result.log ≡ self.entry) × (result.at ≡ 1) }
+    {
+        Groups { log: self, at: 1 }
+    }
+}
+
+impl<'a> Iterator for Groups<'a> {
+    type Item = Group<'a>;
+
+    ghost use Rattle.logs.specs.Passing.{GivesGroup};
+
+    ghost next_gives = { GivesGroup };
+
+    ghost remaining = { λ s. at_most (length s.log.words.now - s.at) };
+
+    fn next(&mut self) -> Option<Group<'a>> {
+        let words = self.log.words;
+        let at = self.at;
+        if at == words.len() - 1 {
+            return None;
+        }
+        let end = group_end(words, at + 2);
+        self.at = end;
+        Some(Group {
+            from: number_of(words[at]),
+            to_words: &words[at + 1..end],
+        })
+    }
+}
