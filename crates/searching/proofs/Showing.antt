@@ -2,13 +2,12 @@
 use mathlib.Core.Path.{◌≡◌, refl, ◌∙◌}
 use mathlib.Core.List.{List}
 use Prim.Native.Nat.{ℕ, ◌+◌, ◌*◌, ◌≤◌, ◌<◌}
-use native.Mathlib.Decide.{dec_lt}
 use native.Mathlib.Omega.{arith}
-use lib.ListN.{length, get_or}
+use lib.ListN.{length}
 use Rattle.bits.specs.Bits.{NextNew}
-use Rattle.bits.specs.Work.{next_at, prev_at, via_at, queue_at, seen_at, dead_at, Outside}
+use Rattle.bits.specs.Work.{next_at, via_at, seen_at, dead_at, Outside}
 use Rattle.searching.specs.Items.{Tables, SameChains, Matching, Searching, Saw, Flipped}
-use Rattle.searching.specs.State.{tables, deads, Pairs, Sized, SawIn, ShownIn}
+use Rattle.searching.specs.State.{tables, deads, Pairs, Sized, SawIn, ShowAsked, ShownIn}
 use Rattle.bits.proofs.Frames.{outside_none, outside_then}
 use Rattle.searching.proofs.Frames.{pairs_kept, pairs_were, next_before, prev_before}
 use Rattle.searching.proofs.Relations.{Within}
@@ -37,29 +36,6 @@ flipped_fewer l s =
       prev_other = λ c h. s.prev_other c (omega arith);
     }
 
--- the item at `head` has shown what it has up to `b`
-shown_to : {m : ℕ} {R : ℕ → ℕ → Type 0} {dead : ℕ → ℕ} {t : Tables} {head from tail b : ℕ}
-    → Searching m R dead t head from tail → ((c : ℕ) → from ≤ c → c < b → c < m → R (t.queue head) c → t.seen c ≡ 1)
-    → Searching m R dead t head b tail
-shown_to {m} {R} {dead} {t} {head} {from} {tail} {b} s gap =
-    record {
-      head_le = s.head_le;
-      tail_le = s.tail_le;
-      queued = s.queued;
-      different = s.different;
-      opened = s.opened;
-      all_open = s.all_open;
-      old = s.old;
-      kept = s.kept;
-      came = s.came;
-      shown = s.shown;
-      showing = λ c l cl r. go c l cl r (dec_lt c from);
-    }
-  where
-    go : (c : ℕ) → c < b → c < m → R (t.queue head) c → Dec (c < from) → t.seen c ≡ 1
-    go c l cl r (yes h) = s.showing c h cl r
-    go c l cl r (no h) = gap c (omega arith) l cl r
-
 -- ---- the work words before the tables of a search, and the chains, stay as they are
 
 module _ {lo hi : ℕ} {w w' : List ℕ} (le : via_at ≤ lo) (o : Outside lo hi w w') where
@@ -85,90 +61,97 @@ module _ {w w' : List ℕ} {base m lo hi : ℕ} (s : Sized w base m) (le : next_
 
 -- ---- the loop of `show`
 
--- `b` is the first that the item at `head` of the queue has and that was not seen, or not below `m`; the words were `w₀`
-pub record Showing (w₀ w : List ℕ) (base m head row end b : ℕ) : Type 0 where
+-- the item at `head` of the queue has shown what it has below `from`; the words were `w₀`
+pub record Showing (w₀ w : List ℕ) (base m head row end from : ℕ) : Type 0 where
   pub sized : Sized w base m
   pub outside : Outside via_at dead_at w₀ w
   pub matching : Matching m (tables w)
-  pub searching : Searching m (Pairs base w₀) (deads w₀) (tables w) head b end
+  pub searching : Searching m (Pairs base w₀) (deads w₀) (tables w) head from end
   pub inside : head < end
   pub source : (tables w).queue 0 ≡ (tables w₀).queue 0
-  pub row_is : row ≡ base + 8 * get_or w (queue_at + head) 0
-  pub at_most : b ≤ 256
-  pub new : b < m → Pairs base w₀ ((tables w).queue head) b × ((tables w).seen b ≡ 0)
+  pub row_is : row ≡ base + 8 * (tables w).queue head
+  pub from_le : from ≤ 256
 
--- the next new bit
-module _ (w₀ w : List ℕ) (base m head row end from r : ℕ) where
-  showing_next : Sized w₀ base m → Outside via_at dead_at w₀ w → Matching m (tables w) → Searching m (Pairs base w₀) (deads w₀) (tables w) head from end
-      → head < end → (tables w).queue 0 ≡ (tables w₀).queue 0 → row ≡ base + 8 * get_or w (queue_at + head) 0 → NextNew w row seen_at from r
-      → Showing w₀ w base m head row end r
-  showing_next z o k s hd q e n =
-      record {
-        sized = sized_kept o.same_length z;
-        outside = o;
-        matching = k;
-        searching = shown_to s (λ c lo hi cl q. n.passed c lo hi (rw e (forth z (omega arith) o ((tables w).queue head) c low cl q)));
-        inside = hd;
-        source = q;
-        row_is = e;
-        at_most = n.at_most;
-        new =
-            λ rl.
-            let (p, q) = n.new (omega (arith, z.items)) in
-            (back z (omega arith) o ((tables w).queue head) r low rl (rw e at p), q);
-      }
-    where
-      low : (tables w).queue head < m
-      low = s.queued head hd
-
-pub showing_start : (w : List ℕ) (base m head tail r : ℕ) → Sized w base m → Matching m (tables w)
-    → Searching m (Pairs base w) (deads w) (tables w) head 0 tail → head < tail → NextNew w (base + 8 * get_or w (queue_at + head) 0) seen_at 0 r
-    → Showing w w base m head (base + 8 * get_or w (queue_at + head) 0) tail r
-showing_start w base m head tail r z k s hd n =
-    showing_next w w base m head (base + 8 * get_or w (queue_at + head) 0) tail 0 r z (outside_none via_at dead_at w) k s hd refl refl n
-
--- `b` is seen; the words are now `w'`
-module _ (w₀ w w' : List ℕ) (base m head row end b : ℕ) (s : Showing w₀ w base m head row end b) (bl : b < m) (i : SawIn w w' head b end) where
-  saw : Saw m (tables w) (tables w') head b end
-  saw = saw_fewer (omega (arith, s.sized.items)) i.saw
-
-  prev_is : get_or w' (prev_at + b) 0 ≡ get_or w (prev_at + b) 0
-  prev_is = saw.prev_same b bl
-
-  outside' : Outside via_at dead_at w₀ w'
-  outside' = outside_then s.outside i.outside
-
-  source' : (tables w').queue 0 ≡ (tables w₀).queue 0
-  source' = saw.queue_same 0 (omega (arith, s.inside)) ∙ s.source
-
-  -- with an item before it
-  pub showing_more : (r : ℕ) → Sized w₀ base m → 0 < get_or w' (prev_at + b) 0 → NextNew w' row seen_at (b + 1) r
-      → Showing w₀ w' base m head row (end + 1) r
-  showing_more r z pos n =
-      showing_next w₀ w' base m head row (end + 1) (b + 1) r z outside' (saw_matching s.matching saw)
-      (saw_searching s.matching s.searching saw s.inside bl (s.new bl).1 (omega (arith, prev_is)) (s.new bl).0
-      (λ c lo hi q. absurd (omega arith)))
-      (omega (arith, s.inside)) source' (rw (saw.queue_same head s.inside) s.row_is) n
-
-  -- with none
-  pub showing_found : get_or w' (prev_at + b) 0 ≡ 0 → ShownIn w₀ w' base m head b end
-  showing_found first =
-      record {
-        outside = outside';
-        source = source';
-        item_le = omega arith;
-        done = λ e. absurd (omega arith);
-        found = λ l.
-            found s.matching s.searching saw s.inside bl (s.new bl).1 (omega (arith, prev_is)) (s.new bl).0;
-      }
-
--- there is no further one
-pub showing_end : (w₀ w : List ℕ) (base m head row end b : ℕ) → Showing w₀ w base m head row end b → m ≤ b → ShownIn w₀ w base m head m end
-showing_end w₀ w base m head row end b s le =
+pub showing_start : (w : List ℕ) (base m head tail : ℕ) → ShowAsked w base m head tail
+    → Showing w w base m head (base + 8 * (tables w).queue head) tail 0
+showing_start w base m head tail (z, k, s, hd) =
     record {
-      outside = s.outside;
-      source = s.source;
-      item_le = omega arith;
-      done = λ e. item_done s.searching s.inside (λ c lo cl q. absurd (omega arith));
-      found = λ l. absurd (omega arith);
+      sized = z;
+      outside = outside_none via_at dead_at w;
+      matching = k;
+      searching = s;
+      inside = hd;
+      source = refl;
+      row_is = refl;
+      from_le = omega arith;
     }
+
+-- `r` is the first from `from` on that the item at `head` has and that was not seen
+module _
+    (w₀ w : List ℕ)
+    (base m head row end from r : ℕ)
+    (z : Sized w₀ base m)
+    (s : Showing w₀ w base m head row end from)
+    (n : NextNew w row seen_at from r) where
+  low : (tables w).queue head < m
+  low = s.searching.queued head s.inside
+
+  -- what it has before that was seen
+  gap : (c : ℕ) → from ≤ c → c < r → c < m → Pairs base w₀ ((tables w).queue head) c → (tables w).seen c ≡ 1
+  gap c lo hi cl q = n.passed c lo hi (rw s.row_is (forth z (omega arith) s.outside ((tables w).queue head) c low cl q))
+
+  -- there is none
+  pub showing_end : m ≤ r → ShownIn w₀ w base m head m end
+  showing_end le =
+      record {
+        outside = s.outside;
+        source = s.source;
+        item_le = omega arith;
+        done = λ e. item_done s.searching s.inside (λ c lo cl q. gap c lo (omega arith) cl q);
+        found = λ l. absurd (omega arith);
+      }
+
+  -- `r` is seen; the words are now `w'`
+  module _ (w' : List ℕ) (rl : r < m) (i : SawIn w w' head r end) where
+    saw : Saw m (tables w) (tables w') head r end
+    saw = saw_fewer (omega (arith, s.sized.items)) i.saw
+
+    new : Pairs base w₀ ((tables w).queue head) r × ((tables w).seen r ≡ 0)
+    new =
+        let (p, q) = n.new (omega (arith, z.items)) in
+        (back z (omega arith) s.outside ((tables w).queue head) r low rl (rw s.row_is at p), q)
+
+    outside' : Outside via_at dead_at w₀ w'
+    outside' = outside_then s.outside i.outside
+
+    source' : (tables w').queue 0 ≡ (tables w₀).queue 0
+    source' = saw.queue_same 0 (omega (arith, s.inside)) ∙ s.source
+
+    -- with an item before it
+    pub showing_more : 0 < (tables w').prev r → Showing w₀ w' base m head row (end + 1) (r + 1)
+    showing_more pos =
+        record {
+          sized = sized_kept outside'.same_length z;
+          outside = outside';
+          matching = saw_matching s.matching saw;
+          searching =
+              saw_searching s.matching s.searching saw s.inside rl new.1 (omega (arith, saw.prev_same r rl)) new.0
+              (λ c lo hi q. gap c lo hi (omega arith) q);
+          inside = omega (arith, s.inside);
+          source = source';
+          row_is = rw (saw.queue_same head s.inside) s.row_is;
+          from_le = omega (arith, z.items);
+        }
+
+    -- with none
+    pub showing_found : (tables w').prev r ≡ 0 → ShownIn w₀ w' base m head r end
+    showing_found first =
+        record {
+          outside = outside';
+          source = source';
+          item_le = omega arith;
+          done = λ e. absurd (omega arith);
+          found =
+              λ l.
+              found s.matching s.searching saw s.inside rl new.1 (omega (arith, saw.prev_same r rl)) new.0;
+        }

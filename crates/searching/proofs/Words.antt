@@ -2,7 +2,7 @@
 use mathlib.Core.Path.{◌≡◌, ◌∙◌}
 use mathlib.Core.Logic.{◌≢◌}
 use mathlib.Core.List.{List}
-use Prim.Native.Nat.{ℕ, ◌+◌, ◌-◌, ◌/◌, ◌≤◌, ◌<◌}
+use Prim.Native.Nat.{ℕ, ◌+◌, ◌/◌, ◌≤◌, ◌<◌}
 use native.Mathlib.Omega.{arith}
 use lib.ListN.{length, get_or, set, length-set}
 use lib.Seq.{get_or-set_same, get_or-set_other}
@@ -17,9 +17,6 @@ use Rattle.bits.proofs.Frames.{outside_set, outside_more, bit_stored}
 module _ (w w₁ : List ℕ) (head b tail : ℕ) (fits : used_words ≤ length w) (below : b < 256) (room : tail < 256) (s : BitSet w w₁ seen_at b) where
   abbrev seen_words : List ℕ
   seen_words = set w₁ (via_at + b) (head + 1)
-
-  abbrev queued_words : List ℕ
-  queued_words = set seen_words (queue_at + tail) (get_or seen_words (prev_at + b) 0 - 1)
 
   seen_word : (i : ℕ) → i ≢ via_at + b → i ≢ seen_at + b / 32 → get_or seen_words i 0 ≡ get_or w i 0
   seen_word i far ne = get_or-set_other w₁ (via_at + b) i (head + 1) 0 far ∙ s.words i ne
@@ -59,38 +56,39 @@ module _ (w w₁ : List ℕ) (head b tail : ℕ) (fits : used_words ≤ length w
             };
       }
 
-  -- where one does, which goes into the queue
-  pub saw_queued : SawIn w queued_words head b tail
-  saw_queued =
-      record {
-        outside = outside_more (queue_at + tail) x (omega arith) (omega arith) seen_outside;
-        saw =
-            record {
-              next_same = λ a h. word (next_at + a) (λ e. absurd (omega arith)) (λ e. absurd (omega arith)) (λ e. absurd (omega arith));
-              prev_same = λ a h. word (prev_at + a) (λ e. absurd (omega arith)) (λ e. absurd (omega arith)) (λ e. absurd (omega arith));
-              via_here = other (via_at + b) (λ e. absurd (omega arith)) ∙ seen_via;
-              via_other = λ c h ne. word (via_at + c) (λ e. absurd (omega arith)) (λ e. ne (omega arith)) (λ e. absurd (omega arith));
-              queue_same = λ p h. word (queue_at + p) (λ e. absurd (omega arith)) (λ e. absurd (omega arith)) (λ e. absurd (omega arith));
-              queue_last = λ h. omega (arith, seen_prev, last);
-              seen_here = bit_other b below ∙ seen_bit b below ∙ s.here;
-              seen_other = λ c h ne. bit_other c h ∙ seen_bit c h ∙ s.others c ne;
-            };
-      }
-    where
-      x : ℕ
-      x = get_or seen_words (prev_at + b) 0 - 1
+  -- where `x` does, which goes into the queue
+  module _ (x : ℕ) (named : x + 1 ≡ get_or seen_words (prev_at + b) 0) where
+    abbrev queued_words : List ℕ
+    queued_words = set seen_words (queue_at + tail) x
 
-      other : (i : ℕ) → i ≢ queue_at + tail → get_or queued_words i 0 ≡ get_or seen_words i 0
-      other i ne = get_or-set_other seen_words (queue_at + tail) i x 0 ne
+    other : (i : ℕ) → i ≢ queue_at + tail → get_or queued_words i 0 ≡ get_or seen_words i 0
+    other i ne = get_or-set_other seen_words (queue_at + tail) i x 0 ne
 
-      word : (i : ℕ) → i ≢ queue_at + tail → i ≢ via_at + b → i ≢ seen_at + b / 32 → get_or queued_words i 0 ≡ get_or w i 0
-      word i ne far away = other i ne ∙ seen_word i far away
+    word : (i : ℕ) → i ≢ queue_at + tail → i ≢ via_at + b → i ≢ seen_at + b / 32 → get_or queued_words i 0 ≡ get_or w i 0
+    word i ne far away = other i ne ∙ seen_word i far away
 
-      last : get_or queued_words (queue_at + tail) 0 ≡ x
-      last = get_or-set_same seen_words (queue_at + tail) x 0 (simp length-set (omega arith))
+    last : get_or queued_words (queue_at + tail) 0 ≡ x
+    last = get_or-set_same seen_words (queue_at + tail) x 0 (simp length-set (omega arith))
 
-      bit_other : (c : ℕ) → c < 256 → bit queued_words seen_at c ≡ bit seen_words seen_at c
-      bit_other c h = bit_stored seen_words (queue_at + tail) x seen_at c (λ e. absurd (omega arith))
+    bit_other : (c : ℕ) → c < 256 → bit queued_words seen_at c ≡ bit seen_words seen_at c
+    bit_other c h = bit_stored seen_words (queue_at + tail) x seen_at c (λ e. absurd (omega arith))
+
+    pub saw_queued : SawIn w queued_words head b tail
+    saw_queued =
+        record {
+          outside = outside_more (queue_at + tail) x (omega arith) (omega arith) seen_outside;
+          saw =
+              record {
+                next_same = λ a h. word (next_at + a) (λ e. absurd (omega arith)) (λ e. absurd (omega arith)) (λ e. absurd (omega arith));
+                prev_same = λ a h. word (prev_at + a) (λ e. absurd (omega arith)) (λ e. absurd (omega arith)) (λ e. absurd (omega arith));
+                via_here = other (via_at + b) (λ e. absurd (omega arith)) ∙ seen_via;
+                via_other = λ c h ne. word (via_at + c) (λ e. absurd (omega arith)) (λ e. ne (omega arith)) (λ e. absurd (omega arith));
+                queue_same = λ p h. word (queue_at + p) (λ e. absurd (omega arith)) (λ e. absurd (omega arith)) (λ e. absurd (omega arith));
+                queue_last = λ h. omega (arith, seen_prev, last);
+                seen_here = bit_other b below ∙ seen_bit b below ∙ s.here;
+                seen_other = λ c h ne. bit_other c h ∙ seen_bit c h ∙ s.others c ne;
+              };
+        }
 
 -- ---- an item is put behind another
 

@@ -1,9 +1,9 @@
 // Chains of items in the work words, and an augmenting search from the end of one of them.
 #![tactic(auto)]
 
-ghost use Rattle.std.specs.Prelude.{◌≡◌, ◌<◌, ◌≤◌, length, get_or};
+ghost use Rattle.std.specs.Prelude.{◌≡◌, ◌<◌, ◌≤◌, length, get_or, unwrap_or, IfSome};
 ghost use Rattle.bits.specs.Work.{used_words};
-ghost use Rattle.searching.specs.State.{tables, figure, ForgottenIn, PutIn, SawIn, ShowAsked, ShownIn, SearchedIn, FlipAsked, FlippedIn, Extendable};
+ghost use Rattle.searching.specs.State.{tables, figure, ForgottenIn, PutIn, SawIn, ShowAsked, ShownAs, SearchedIn, FlipAsked, FlippedIn, Extendable};
 
 use bits::{NEXT, NONE, PREV, QUEUE, SEEN, VIA};
 
@@ -12,9 +12,7 @@ pub fn forget(w: &mut [u32])
     requires { used_words ≤ length w.old }
     ensures { ForgottenIn w.old w.new }
 {
-    let from = SEEN;
-    let to = NONE;
-    bits::clear(&mut w[from..to]);
+    w[SEEN..NONE].fill(0);
 }
 
 // Puts `b` behind `a`.
@@ -57,67 +55,65 @@ fn see(w: &mut [u32], head: usize, b: usize, tail: usize)
 {
     bits::set_bit(w, SEEN, b);
     w[VIA + b] = (head + 1) as u32;
-    let before = w[PREV + b];
-    if before != 0 {
-        w[QUEUE + tail] = before - 1;
+    if let Some(before) = previous_of(w, b) {
+        w[QUEUE + tail] = before as u32;
     }
 }
 
-// An item and the end of the queue.
-#[derive(Clone, Copy)]
-struct Shown {
-    item: usize,
-    tail: usize,
+// What an item of the queue leads to: an item with none before it, or only more of the queue, up to this end.
+enum Shown {
+    Found(usize),
+    Queued(usize),
 }
 
-// Sees what the item at `head` of the queue has in the matrix at `base`, up to an item with none before it; the item is `m` where there
-// is no such item.
+// Sees what the item at `head` of the queue has in the matrix at `base`, up to an item with none before it.
 fn show(w: &mut [u32], base: usize, m: usize, head: usize, tail: usize) -> Shown
     requires { ShowAsked w.old base m head tail }
-    ensures { ShownIn w.old w.new base m head result.item result.tail }
+    ensures { ShownAs w.old w.new base m head result }
 {
     let row = base + 8 * w[QUEUE + head] as usize;
     let mut end = tail;
-    let mut b = bits::next_new(w, row, SEEN, 0);
-    while b < m {
+    let mut from = 0;
+    while let Some(b) = bits::next_new(w, row, SEEN, from)
+        && b < m
+    {
         see(w, head, b, end);
-        if w[PREV + b] == 0 {
-            return Shown { item: b, tail: end };
+        if previous_of(w, b).is_none() {
+            return Shown::Found(b);
         }
         end += 1;
-        b = bits::next_new(w, row, SEEN, b + 1);
+        from = b + 1;
     }
-    Shown { item: m, tail: end }
+    Shown::Queued(end)
 }
 
-// Searches for an item with none before it, from `a`, which ends a chain; `m` where there is none.
-pub fn search(w: &mut [u32], base: usize, m: usize, a: usize) -> usize
+// Searches for an item with none before it, from `a`, which ends a chain.
+pub fn search(w: &mut [u32], base: usize, m: usize, a: usize) -> Option<usize>
     requires { Extendable w.old base m a × (a < m) × ((tables w.old).next a ≡ 0) }
-    ensures { SearchedIn w.old w.new base m a result }
+    ensures found { IfSome result (λ item. item < m) }
+    ensures searched { SearchedIn w.old w.new base m a (unwrap_or result m) }
 {
     w[QUEUE] = a as u32;
     let mut tail = 1;
     let mut head = 0;
     while head < tail {
-        let shown = show(w, base, m, head, tail);
-        let item = shown.item;
-        if item < m {
-            return item;
+        match show(w, base, m, head, tail) {
+            Shown::Found(item) => return Some(item),
+            Shown::Queued(end) => tail = end,
         }
-        tail = shown.tail;
         head += 1;
     }
-    m
+    None
 }
 
-// Puts `b` behind the item from which it was seen, and gives what stood there before, plus one.
-pub fn flip(w: &mut [u32], b: usize) -> usize
+// Puts `b` behind the item from which it was seen, and gives what stood there before.
+pub fn flip(w: &mut [u32], b: usize) -> Option<usize>
     requires { FlipAsked w.old b }
-    ensures { FlippedIn w.old w.new b result }
+    ensures { FlippedIn w.old w.new b (figure result) }
 {
     let place = w[VIA + b] as usize - 1;
     let a = w[QUEUE + place] as usize;
-    let old = w[NEXT + a] as usize;
+    let old = next_of(w, a);
     put_behind(w, a, b);
     old
 }

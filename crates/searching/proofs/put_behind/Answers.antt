@@ -1,11 +1,7 @@
 -- `searching::put_behind` meets its contract. Assumes nothing.
 use native.Mathlib.Omega.{arith}
-use lib.ListN.{length-set}
 use Rattle.searching.proofs.Words.{put}
 use Rattle.searching.proofs.put_behind.Goals as goal
-
-pub bounds-w-b : goal.bounds-w-b
-bounds-w-b c = simp length-set (omega arith)
 
 pub returns : goal.returns
 returns c = put c.args.w.now c.args.a c.args.b (omega arith) (omega arith) (omega arith)
