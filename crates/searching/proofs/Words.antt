@@ -1,5 +1,6 @@
 -- The tables after words are stored: an item is seen, and an item is put behind another.
-use mathlib.Core.Path.{◌≡◌, ◌∙◌}
+use Rattle.std.specs.Prelude.{Option, Some, None, is_some, true, false}
+use mathlib.Core.Path.{◌≡◌, refl, ◌∙◌}
 use mathlib.Core.Logic.{◌≢◌}
 use mathlib.Core.List.{List}
 use Prim.Native.Nat.{ℕ, ◌+◌, ◌/◌, ◌≤◌, ◌<◌}
@@ -8,8 +9,18 @@ use lib.ListN.{length, get_or, set, length-set}
 use lib.Seq.{get_or-set_same, get_or-set_other}
 use Rattle.bits.specs.Bits.{bit, BitSet}
 use Rattle.bits.specs.Work.{next_at, prev_at, via_at, queue_at, seen_at, dead_at, used_words, Outside}
-use Rattle.searching.specs.State.{PutIn, SawIn}
+use Rattle.searching.specs.State.{figure, PutIn, SawIn}
 use Rattle.bits.proofs.Frames.{outside_set, outside_more, bit_stored}
+
+-- ---- whether a table's word names an item
+
+pub figure_some : (o : Option ℕ) → is_some o ≡ true → 0 < figure o
+figure_some (Some x) h = omega arith
+figure_some None h = absurd (cc)
+
+pub figure_none : (o : Option ℕ) → is_some o ≡ false → figure o ≡ 0
+figure_none (Some x) h = absurd (cc)
+figure_none None h = refl
 
 -- ---- an item is seen
 

@@ -1,6 +1,6 @@
-use Rattle.std.proofs.Common.{◌≡◌, arith}
-use Rattle.std.proofs.lemmas.Grind.{common_steps}
+use Rattle.std.proofs.Common.{◌≡◌, rules, arith}
 use Rattle.bits.specs.Bits.{place_or_end}
+use Rattle.searching.proofs.Words.{figure_none, figure_some}
 use Rattle.searching.proofs.Showing.{showing_start, showing_more, showing_found, showing_end}
 use Rattle.searching.proofs.show.Goals as goal
 
@@ -15,7 +15,8 @@ returns-then-is_none c =
       at.end,
       c.if-b-m.true,
       showing_found a.w.now at.w a.base a.m a.head _ at.end at.from b.b c.requires.0 at.invariant b.ensures c.see.new.w c.if-b-m.true
-          c.see.ensures (grind (arith, common_steps)),
+          c.see.ensures
+          (omega (arith, c.previous_of.ensures, figure_none c.previous_of.result (search rules))),
     )
 
 pub loop-b-preserved : goal.loop-b-preserved
@@ -24,7 +25,8 @@ loop-b-preserved c =
     let at = c.loop-b in
     let b = c.in-Some in
     showing_more a.w.now at.w a.base a.m a.head _ at.end at.from b.b c.requires.0 at.invariant b.ensures c.see.new.w c.if-b-m.true
-    c.see.ensures (grind (arith, common_steps))
+    c.see.ensures
+    (omega (arith, c.previous_of.ensures, figure_some c.previous_of.result (search rules)))
 
 pub returns-in-loop-b : goal.returns-in-loop-b
 returns-in-loop-b c =
