@@ -1,16 +1,17 @@
 -- A search from one item: one chain fewer, going back over the items that it has seen, from the one with none before it; or what it has
 -- seen is dead.
+use Rattle.std.specs.Prelude.{Option, Some, None}
 use mathlib.Core.Path.{◌≡◌, refl, sym, ap, subst, ◌∙◌}
 use mathlib.Core.Logic.{inl, inr}
 use mathlib.Core.List.{List}
-use Prim.Native.Nat.{ℕ, zero, suc, ◌+◌, ◌-◌, ◌≤◌, ◌<◌}
+use Prim.Native.Nat.{ℕ, ◌+◌, ◌-◌, ◌≤◌, ◌<◌}
 use native.Mathlib.Omega.{arith}
 use lib.ListN.{length, get_or}
 use Rattle.bits.specs.Bits.{RowCopied}
 use Rattle.bits.specs.Work.{next_at, via_at, seen_at, dead_at, none_at, used_words, Outside}
 use Rattle.bits.proofs.Frames.{outside_none, outside_then, outside_wider, bit_before}
 use Rattle.searching.specs.Items.{SameChains, Dead, Trail, Flipping, Flipped, Extended}
-use Rattle.searching.specs.State.{tables, deads, Pairs, Extendable, SearchedIn, FlippedIn}
+use Rattle.searching.specs.State.{tables, figure, deads, Pairs, Extendable, SearchedIn, FlipAsked, FlippedIn}
 use Rattle.chains.specs.Joined.{ExtendedIn}
 use Rattle.searching.proofs.Deads.{dead_moved, dead_skip, dead_kept}
 use Rattle.chains.proofs.Flips.{flip_on, flip_end}
@@ -19,28 +20,23 @@ use Rattle.searching.proofs.Marks.{copied_outside}
 use Rattle.searching.proofs.Relations.{chains_none, trail_within, flipping_within, shrunk_within, shrunk_from, shrunk_to}
 use Rattle.searching.proofs.Showing.{flipped_fewer, matching_kept, same_chains, forth, back}
 
--- what is left of the way back: the place, plus one, from which the item `old - 1` was seen, or 0 where `old` is 0
-unfoldable pub left : List ℕ → ℕ → ℕ
-left w zero = 0
-left w (suc b) = get_or w (via_at + b) 0
+-- what is left of the way back: the place, plus one, from which the next item was seen, or 0 at the end
+abbrev pub left : List ℕ → Option ℕ → ℕ
+left w (Some b) = get_or w (via_at + b) 0
+left w None = 0
 
-left_at : (w : List ℕ) (old b : ℕ) → old ≡ b + 1 → left w old ≡ get_or w (via_at + b) 0
-unfolding left
-left_at w zero b e = absurd (omega arith)
-left_at w (suc c) b e = let same : c ≡ b = omega arith in rw same
-
--- On the way back: `w₁` are the words after the search, and `old` is, plus one, the item before which none stands, or 0 at the end.
-pub record Going (w₁ w : List ℕ) (base m tail old : ℕ) : Type 0 where
+-- On the way back: `w₁` are the words after the search, and `item` is the item before which none stands, or none at the end.
+pub record Going (w₁ w : List ℕ) (base m tail : ℕ) (item : Option ℕ) : Type 0 where
   pub items : m < 256
   pub long : used_words ≤ length w
   pub outside : Outside next_at via_at w₁ w
   pub tail_le : tail ≤ m
   pub trail : Trail m (Pairs base w₁) (deads w₁) (tables w₁) tail
-  pub on : (b : ℕ) → old ≡ b + 1 → Flipping m (Pairs base w₁) (deads w₁) (tables w₁) (tables w) tail b
-  pub done : old ≡ 0 → Extended m (Pairs base w₁) (deads w₁) (tables w₁) (tables w) ((tables w₁).queue 0)
+  pub on : (b : ℕ) → item ≡ Some b → Flipping m (Pairs base w₁) (deads w₁) (tables w₁) (tables w) tail b
+  pub done : item ≡ None → Extended m (Pairs base w₁) (deads w₁) (tables w₁) (tables w) ((tables w₁).queue 0)
 
 -- one step back
-module _ (w₁ w : List ℕ) (base m tail old b : ℕ) (s : Going w₁ w base m tail old) (e : old ≡ b + 1) where
+module _ (w₁ w : List ℕ) (base m tail : ℕ) (item : Option ℕ) (b : ℕ) (s : Going w₁ w base m tail item) (e : item ≡ Some b) where
   f : Flipping m (Pairs base w₁) (deads w₁) (tables w₁) (tables w) tail b
   f = s.on b e
 
@@ -55,8 +51,7 @@ module _ (w₁ w : List ℕ) (base m tail old b : ℕ) (s : Going w₁ w base m 
       let q : (tables w).via b - 1 ≡ p = omega (arith, via) in
       ap (λ (x : ℕ). (tables w).queue x) q ∙ queue_behind s.outside (omega arith) p
 
-  pub flip_asked : (used_words ≤ length w) × (b < 256) × (0 < (tables w).via b) × ((tables w).via b ≤ 256)
-      × ((tables w).queue ((tables w).via b - 1) < 256)
+  pub flip_asked : FlipAsked w b
   flip_asked =
       let il = s.items in
       let tl = s.tail_le in
@@ -65,14 +60,14 @@ module _ (w₁ w : List ℕ) (base m tail old b : ℕ) (s : Going w₁ w base m 
       let ql = s.trail.queued p pl in
       (s.long, omega arith, omega (arith, via), omega (arith, via), omega (arith, place))
 
-  module _ (w' : List ℕ) (old' : ℕ) (k : FlippedIn w w' b old') where
+  module _ (w' : List ℕ) (item' : Option ℕ) (k : FlippedIn w w' b (figure item')) where
     flipped : Flipped m (tables w) (tables w') ((tables w₁).queue p) b
     flipped = rw place at (flipped_fewer {n = m} (omega (arith, s.items)) k.put.flipped)
 
-    before : old' ≡ (tables w).next ((tables w₁).queue p)
-    before = k.before ∙ ap (λ (x : ℕ). (tables w).next x) place
+    before : (tables w).next ((tables w₁).queue p) ≡ figure item'
+    before = sym (k.before ∙ ap (λ (x : ℕ). (tables w).next x) place)
 
-    pub going_more : Going w₁ w' base m tail old'
+    pub going_more : Going w₁ w' base m tail item'
     going_more =
         record {
           items = s.items;
@@ -80,23 +75,21 @@ module _ (w₁ w : List ℕ) (base m tail old b : ℕ) (s : Going w₁ w base m 
           outside = outside_then s.outside k.put.outside;
           tail_le = s.tail_le;
           trail = s.trail;
-          on = λ c i. (flip_on p s.trail f f.from.2 flipped (sym before ∙ i)).0;
-          done = λ i. flip_end p s.trail f f.from.2 flipped (sym before ∙ i);
+          on = λ c i. (flip_on p s.trail f f.from.2 flipped (before ∙ ap figure i)).0;
+          done = λ i. flip_end p s.trail f f.from.2 flipped (before ∙ ap figure i);
         }
 
-    pub going_less : left w' old' < left w old
-    unfolding left
-    going_less = go old' refl
+    pub going_less : left w' item' < left w item
+    going_less = go item' refl
       where
-        now : left w old ≡ p + 1
-        now = left_at w old b e ∙ via
+        now : left w item ≡ p + 1
+        now = ap (left w) e ∙ via
 
-        go : (x : ℕ) → old' ≡ x → left w' x < left w old
-        go zero i = omega (arith, now)
-        go (suc c) i =
-            let q : (tables w).next ((tables w₁).queue p) ≡ c + 1 = omega (arith, before) in
-            let h = (flip_on p s.trail f f.from.2 flipped q).1 in
-            let j : left w' (suc c) ≡ (tables w₁).via c = left_at w' (suc c) c (omega arith) ∙ via_behind going_more.outside (omega arith) c in
+        go : (x : Option ℕ) → item' ≡ x → left w' x < left w item
+        go None i = omega (arith, now)
+        go (Some c) i =
+            let h = (flip_on p s.trail f f.from.2 flipped (before ∙ ap figure i)).1 in
+            let j : left w' (Some c) ≡ (tables w₁).via c = via_behind going_more.outside (omega arith) c in
             let v = f.from.2 in
             omega (arith, now)
 
@@ -110,7 +103,7 @@ module _ (e w₁ : List ℕ) (base m a item : ℕ) (z : Extendable e base m a) (
   same_dead : (b : ℕ) → b < m → deads w₁ b ≡ deads e b
   same_dead b bl = dead_behind h.outside (omega arith) b
 
-  pub going_start : item < m → (tail : ℕ) × Going w₁ w₁ base m tail (item + 1)
+  pub going_start : item < m → (tail : ℕ) × Going w₁ w₁ base m tail (Some item)
   going_start l =
       let (tail, tl, k, i) = h.found l in
       let to = forth z.sized (omega arith) h.outside in (
@@ -121,18 +114,14 @@ module _ (e w₁ : List ℕ) (base m a item : ℕ) (z : Extendable e base m a) (
           outside = outside_none next_at via_at w₁;
           tail_le = tl;
           trail = trail_within to same_dead k;
-          on = λ b q. let same : item ≡ b = omega arith in rw same at (flipping_within to same_dead k i);
-          done = λ q. absurd (omega arith);
+          on = λ b q. let same : item ≡ b = cc in rw same at (flipping_within to same_dead k i);
+          done = λ q. absurd (cc);
         },
       )
 
-  -- after the first step back
-  pub going_first : (w' : List ℕ) (old : ℕ) → item < m → FlippedIn w₁ w' item old → (tail : ℕ) × Going w₁ w' base m tail old
-  going_first w' old l k = let (tail, s) = going_start l in (tail, going_more w₁ w₁ base m tail (item + 1) item s refl w' old k)
-
   -- one chain fewer; `w'` are the words after what is dead has been copied
-  pub going_end : (w w' : List ℕ) (tail old : ℕ) → Going w₁ w base m tail old → old ≡ 0 → RowCopied w w' seen_at dead_at → ExtendedIn e w' base m a
-  going_end w w' tail old s q c =
+  pub going_end : (w w' : List ℕ) (tail : ℕ) (next : Option ℕ) → Going w₁ w base m tail next → next ≡ None → RowCopied w w' seen_at dead_at → ExtendedIn e w' base m a
+  going_end w w' tail next s q c =
       record {
         outside =
             outside_then (outside_wider (omega arith) (omega arith) h.outside)

@@ -2,7 +2,7 @@
 use mathlib.Core.Path.{◌≡◌, refl, sym, subst, ◌∙◌}
 use mathlib.Core.Logic.{⊎_elim}
 use mathlib.Core.List.{List}
-use Prim.Native.Nat.{ℕ, ◌+◌, ◌≤◌, ◌<◌}
+use Prim.Native.Nat.{ℕ, ◌+◌, ◌<◌}
 use native.Mathlib.Omega.{arith}
 use Rattle.bits.specs.Work.{next_at, Outside, none_at}
 use Rattle.bits.proofs.Frames.{outside_then, outside_wider}
@@ -36,7 +36,6 @@ module _ (w w' : List ℕ) (base m : ℕ) (z : Sized w base m) (p : PairedIn w w
 
 -- the items below `a` have been searched from, and the chains are of pairs of the matrix; the words were `w₀`
 pub record Joining (w₀ w : List ℕ) (base m a : ℕ) : Type 0 where
-  pub up_to : a ≤ m
   pub outside : Outside next_at none_at w₀ w
   pub extendable : Extendable w base m a
   pub pairs : (x b : ℕ) → x < m → b < m → (tables w).next x ≡ b + 1 → Pairs base w₀ x b
@@ -45,7 +44,6 @@ module _ (w₀ : List ℕ) (base m : ℕ) (z : Chained w₀ base m) where
   pub joining_start : (w : List ℕ) → ForgottenIn w₀ w → Joining w₀ w base m 0
   joining_start w n =
       record {
-        up_to = omega arith;
         outside = outside_wider (omega arith) (omega arith) n.outside;
         extendable =
             record {
@@ -67,7 +65,6 @@ module _ (w₀ : List ℕ) (base m : ℕ) (z : Chained w₀ base m) where
     pub joining_more : (w' : List ℕ) → a < m → ExtendedIn w w' base m a → Joining w₀ w' base m (a + 1)
     joining_more w' al h =
         record {
-          up_to = omega arith;
           outside = outside_then s.outside h.outside;
           extendable =
               record {
@@ -88,8 +85,8 @@ module _ (w₀ : List ℕ) (base m : ℕ) (z : Chained w₀ base m) where
         x = s.extendable
 
     -- all have been searched from
-    pub joining_end : m ≤ a → JoinedIn w₀ w base m
-    joining_end le =
+    pub joining_end : a ≡ m → JoinedIn w₀ w base m
+    joining_end all =
         record {
           outside = s.outside;
           matching = s.extendable.matching;
@@ -99,6 +96,3 @@ module _ (w₀ : List ℕ) (base m : ℕ) (z : Chained w₀ base m) where
               (dead_exhausted (subst (λ (k : ℕ). Dead m (Pairs base w) (tables w) (deads w) k) all s.extendable.dead)
               s.extendable.seen_dead);
         }
-      where
-        all : a ≡ m
-        all = omega (arith, s.up_to)

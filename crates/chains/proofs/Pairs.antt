@@ -129,13 +129,13 @@ module _ (w : List ℕ) (base m a : ℕ) (s : Pairing m (Pairs base w) (tables w
             prev_other = λ c cl ne. wide.prev_other c (omega arith) ne ∙ prev_before marked (omega arith) c (omega arith);
           }
 
--- ---- the pass; `e` are the words at first, and in `w₀` nothing is seen
+-- ---- the pass; `e` are the words at first
 
 pub pairs_start : (e w₀ : List ℕ) (base m : ℕ) → Sized e base m → ((i : ℕ) → next_at ≤ i → i < via_at → get_or e i 0 ≡ 0) → ForgottenIn e w₀
-    → PairedIn w₀ w₀ base m 0
+    → PairedIn e w₀ base m 0
 pairs_start e w₀ base m z none u =
     record {
-      outside = outside_none next_at none_at w₀;
+      outside = outside_wider (omega arith) (omega arith) u.outside;
       pairing =
           record {
             matching =
@@ -160,15 +160,11 @@ pairs_start e w₀ base m z none u =
     prev_none : (b : ℕ) → b < m → get_or w₀ (prev_at + b) 0 ≡ 0
     prev_none b bl = zero (prev_at + b) (omega arith) (omega (arith, z.items))
 
-module _ (w₀ w : List ℕ) (base m a : ℕ) (z : Sized w₀ base m) where
-  pub pair_asked : PairedIn w₀ w base m a → Sized w base m × Pairing m (Pairs base w) (tables w) a
-  pair_asked p = (sized_kept p.outside.same_length z, pairing_within (forth z (omega arith) p.outside) p.pairing)
+module _ (e w : List ℕ) (base m a : ℕ) (z : Sized e base m) (p : PairedIn e w base m a) where
+  pub pair_asked : a < m → Sized w base m × Pairing m (Pairs base w) (tables w) a × (a < m)
+  pair_asked al = (sized_kept p.outside.same_length z, pairing_within (forth z (omega arith) p.outside) p.pairing, al)
 
-  -- seen from earlier words
-  pub paired_from : (w' : List ℕ) → Outside next_at none_at w₀ w → PairedIn w w' base m a → PairedIn w₀ w' base m a
-  paired_from w' o p =
-      record { outside = outside_then o p.outside; pairing = pairing_within (back z (omega arith) o) p.pairing }
-
-pub pairs_done : (e w₀ w : List ℕ) (base m a : ℕ) → Sized e base m → ForgottenIn e w₀ → PairedIn w₀ w base m a → a ≡ m → PairedIn e w base m m
-pairs_done e w₀ w base m a z u p same =
-    rw same at (paired_from e w₀ base m a z w (outside_wider (omega arith) (omega arith) u.outside) p)
+  -- the next item
+  pub paired_more : (w' : List ℕ) → PairedIn w w' base m (a + 1) → PairedIn e w' base m (a + 1)
+  paired_more w' q =
+      record { outside = outside_then p.outside q.outside; pairing = pairing_within (back z (omega arith) p.outside) q.pairing }

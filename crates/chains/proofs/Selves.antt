@@ -14,7 +14,6 @@ use Rattle.bits.proofs.Frames.{outside_none, outside_then}
 
 -- those before `a` stand behind themselves, but for `v`
 pub record Selving (m v : ℕ) (w₀ w : List ℕ) (a : ℕ) : Type 0 where
-  pub up_to : a ≤ m
   pub outside : Outside next_at via_at w₀ w
   pub next_end : (tables w).next v ≡ 0
   pub prev_end : (tables w).prev v ≡ 0
@@ -24,7 +23,6 @@ pub record Selving (m v : ℕ) (w₀ w : List ℕ) (a : ℕ) : Type 0 where
 pub selving_none : (m v : ℕ) (w : List ℕ) → v < m → m < 256 → ((i : ℕ) → next_at ≤ i → i < via_at → get_or w i 0 ≡ 0) → Selving m v w w 0
 selving_none m v w h k z =
     record {
-      up_to = omega arith;
       outside = outside_none next_at via_at w;
       next_end = z (next_at + v) (omega arith) (omega arith);
       prev_end = z (prev_at + v) (omega arith) (omega arith);
@@ -36,7 +34,6 @@ module _ (m v : ℕ) (w₀ w : List ℕ) (a : ℕ) (few : m < 256) (below : v < 
   pub selving_skip : a < m → a ≡ v → Selving m v w₀ w (a + 1)
   selving_skip h e =
       record {
-        up_to = omega arith;
         outside = s.outside;
         next_end = s.next_end;
         prev_end = s.prev_end;
@@ -54,7 +51,6 @@ module _ (m v : ℕ) (w₀ w : List ℕ) (a : ℕ) (few : m < 256) (below : v < 
   pub selving_more : (w' : List ℕ) → PutIn w w' a a → a < m → a ≢ v → Selving m v w₀ w' (a + 1)
   selving_more w' put_in h ne =
       record {
-        up_to = omega arith;
         outside = outside_then s.outside put_in.outside;
         next_end = p.next_other v (omega arith) (λ e. ne (sym e)) ∙ s.next_end;
         prev_end = p.prev_other v (omega arith) (λ e. ne (sym e)) ∙ s.prev_end;

@@ -8,7 +8,7 @@ ghost use Rattle.searching.specs.Items.{Pairing};
 ghost use Rattle.searching.specs.State.{tables, Pairs, Sized, Extendable};
 ghost use Rattle.chains.specs.Joined.{PairedIn, ExtendedIn, Chained, JoinedIn, SelvesIn, LoopedIn};
 
-use bits::{DEAD, LINKS, NEXT, SEEN};
+use bits::{DEAD, LINKS, SEEN};
 
 // Puts behind `a` the first item that it has in the matrix at `base` and that stands behind none yet, if there is one. What stands behind
 // an item is marked as seen.
@@ -16,8 +16,9 @@ fn pair(w: &mut [u32], base: usize, m: usize, a: usize)
     requires { Sized w.old base m × Pairing m (Pairs base w.old) (tables w.old) a × (a < m) }
     ensures { PairedIn w.old w.new base m (a + 1) }
 {
-    let b = bits::next_new(w, base + 8 * a, SEEN, 0);
-    if b < m {
+    if let Some(b) = bits::next_new(w, base + 8 * a, SEEN, 0)
+        && b < m
+    {
         bits::set_bit(w, SEEN, b);
         searching::put_behind(w, a, b);
     }
@@ -29,10 +30,8 @@ fn first_pairs(w: &mut [u32], base: usize, m: usize)
     ensures { PairedIn w.old w.new base m m }
 {
     searching::forget(w);
-    let mut a = 0;
-    while a < m {
+    for a in 0..m {
         pair(w, base, m, a);
-        a += 1;
     }
 }
 
@@ -42,17 +41,16 @@ fn extend(w: &mut [u32], base: usize, m: usize, a: usize)
     requires { Extendable w.old base m a × (a < m) }
     ensures { ExtendedIn w.old w.new base m a }
 {
-    if w[NEXT + a] != 0 {
+    if searching::next_of(w, a).is_some() {
         return;
     }
-    let found = searching::search(w, base, m, a);
-    if found == m {
+    let Some(found) = searching::search(w, base, m, a) else {
         bits::copy_row(w, DEAD, SEEN);
         return;
-    }
-    let mut old = searching::flip(w, found);
-    while old != 0 {
-        old = searching::flip(w, old - 1);
+    };
+    let mut item = Some(found);
+    while let Some(b) = item {
+        item = searching::flip(w, b);
     }
     bits::copy_row(w, SEEN, DEAD);
 }
@@ -63,10 +61,8 @@ fn extend_all(w: &mut [u32], base: usize, m: usize)
     ensures { JoinedIn w.old w.new base m }
 {
     searching::forget(w);
-    let mut from = 0;
-    while from < m {
+    for from in 0..m {
         extend(w, base, m, from);
-        from += 1;
     }
 }
 
@@ -84,12 +80,10 @@ fn behind_itself(w: &mut [u32], m: usize, v: usize)
     requires { (used_words ≤ length w.old) × (m < 256) × (v < m) × ((i : ℕ) → next_at ≤ i → i < via_at → get_or w.old i 0 ≡ 0) }
     ensures { SelvesIn w.old w.new m v }
 {
-    let mut a = 0;
-    while a < m {
+    for a in 0..m {
         if a != v {
             searching::put_behind(w, a, a);
         }
-        a += 1;
     }
 }
 

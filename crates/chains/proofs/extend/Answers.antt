@@ -1,57 +1,50 @@
-use Prim.Native.Nat.{◌-◌}
-use native.Mathlib.Omega.{arith}
-use Rattle.chains.proofs.Extending.{flip_asked, going_more, going_less, not_end, going_first, going_end, in_vain}
+use Rattle.std.proofs.Common.{refl, rules, arith}
+use Rattle.searching.proofs.Words.{figure_some}
+use Rattle.chains.proofs.Extending.{flip_asked, going_more, going_less, not_end, going_start, going_end, in_vain}
 use Rattle.chains.proofs.extend.Goals as goal
 
-pub returns-then-w-a-ne0 : goal.returns-then-w-a-ne0
-returns-then-w-a-ne0 c = not_end c.args.w.now c.args.base c.args.m c.args.a c.requires.0 (omega arith)
+pub returns-then-is_some : goal.returns-then-is_some
+returns-then-is_some c =
+    not_end c.args.w.now c.args.base c.args.m c.args.a c.requires.0
+    (omega (arith, c.next_of.ensures, figure_some c.next_of.result (search rules)))
 
-pub returns-then-found-m : goal.returns-then-found-m
-returns-then-found-m c =
-    let h = c.search-found in
-    let k = c.copy_row in
-    in_vain c.args.w.now h.new.w c.args.base c.args.m c.args.a h.result c.requires.0 h.ensures k.new.w
-    c.if-found-m.true k.ensures
-
-pub flip-old-requires-in-loop-old : goal.flip-old-requires-in-loop-old
-flip-old-requires-in-loop-old c =
+pub returns-in_default : goal.returns-in_default
+returns-in_default c =
     let a = c.args in
-    let at = c.loop-old in
-    let h = c.search-found in
-    let f = c.flip-old in
-    let (tail, first) =
-    going_first a.w.now h.new.w a.base a.m a.a h.result c.requires.0 h.ensures f.new.w f.result (omega (arith, h.ensures.item_le)) f.ensures in
-    let s = at.invariant h.new.w tail first in
-    flip_asked h.new.w at.w a.base a.m tail at.old (at.old - 1) s (omega arith)
+    let h = c.search in
+    in_vain a.w.now h.new.w a.base a.m a.a a.m c.requires.0 c.in_default.ensures.searched c.copy_row.new.w refl c.copy_row.ensures
 
-pub loop-old-smaller : goal.loop-old-smaller
-loop-old-smaller c =
+pub loop-item-init : goal.loop-item-init
+loop-item-init c =
     let a = c.args in
-    let at = c.loop-old in
-    let h = c.search-found in
-    let f = c.flip-old in
-    let (tail, first) =
-    going_first a.w.now h.new.w a.base a.m a.a h.result c.requires.0 h.ensures f.new.w f.result (omega (arith, h.ensures.item_le)) f.ensures in
-    let s = at.invariant h.new.w tail first in
-    let k = c.flip-old-in-loop-old in
-    going_less h.new.w at.w a.base a.m tail at.old (at.old - 1) s (omega arith) k.new.w k.result k.ensures
+    let h = c.search in
+    going_start a.w.now h.new.w a.base a.m a.a c.in-Some.found c.requires.0 c.in-Some.ensures.searched c.in-Some.ensures.found
 
-pub loop-old-preserved : goal.loop-old-preserved
-loop-old-preserved c =
-    let a = c.args in
-    let at = c.loop-old in
-    let k = c.flip-old-in-loop-old in
-    λ w₁ tail s.
-    going_more w₁ at.w a.base a.m tail at.old (at.old - 1) (at.invariant w₁ tail s) (omega arith) k.new.w k.result k.ensures
+pub flip-item-requires : goal.flip-item-requires
+flip-item-requires c =
+    let at = c.loop-item in
+    let (tail, s) = at.invariant in
+    flip_asked c.search.new.w at.w c.args.base c.args.m tail at.item c.in-Some-item.b s c.in-Some-item.is
+
+pub loop-item-smaller : goal.loop-item-smaller
+loop-item-smaller c =
+    let at = c.loop-item in
+    let (tail, s) = at.invariant in
+    let k = c.flip-item in
+    going_less c.search.new.w at.w c.args.base c.args.m tail at.item c.in-Some-item.b s c.in-Some-item.is k.new.w k.result k.ensures
+
+pub loop-item-preserved : goal.loop-item-preserved
+loop-item-preserved c =
+    let at = c.loop-item in
+    let (tail, s) = at.invariant in
+    let k = c.flip-item in
+    (tail, going_more c.search.new.w at.w c.args.base c.args.m tail at.item c.in-Some-item.b s c.in-Some-item.is k.new.w k.result k.ensures)
 
 pub returns : goal.returns
 returns c =
     let a = c.args in
-    let at = c.loop-old in
-    let h = c.search-found in
-    let f = c.flip-old in
-    let (tail, first) =
-    going_first a.w.now h.new.w a.base a.m a.a h.result c.requires.0 h.ensures f.new.w f.result (omega (arith, h.ensures.item_le)) f.ensures in
-    let s = at.invariant h.new.w tail first in
+    let at = c.loop-item in
+    let (tail, s) = at.invariant in
     let k = c.copy_row-2 in
-    going_end a.w.now h.new.w a.base a.m a.a h.result c.requires.0 h.ensures at.w k.new.w tail at.old s (omega arith) k.ensures
+    going_end a.w.now c.search.new.w a.base a.m a.a c.in-Some.found c.requires.0 c.in-Some.ensures.searched at.w k.new.w tail at.item s
+    c.in_default-item.is k.ensures
