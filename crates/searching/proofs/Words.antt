@@ -1,6 +1,6 @@
 -- The tables after words are stored: an item is seen, and an item is put behind another.
 use Rattle.std.specs.Prelude.{Option, Some, None, is_some, true, false}
-use mathlib.Core.Path.{◌≡◌, refl, ◌∙◌}
+use mathlib.Core.Path.{◌≡◌, sym, ◌∙◌}
 use mathlib.Core.Logic.{◌≢◌}
 use mathlib.Core.List.{List}
 use Prim.Native.Nat.{ℕ, ◌+◌, ◌/◌, ◌≤◌, ◌<◌}
@@ -14,13 +14,13 @@ use Rattle.bits.proofs.Frames.{outside_set, outside_more, bit_stored}
 
 -- ---- whether a table's word names an item
 
-pub figure_some : (o : Option ℕ) → is_some o ≡ true → 0 < figure o
-figure_some (Some x) h = omega arith
-figure_some None h = absurd (cc)
+pub figure_some : {n : ℕ} (o : Option ℕ) → is_some o ≡ true → figure o ≡ n → 0 < n
+figure_some (Some x) h e = omega arith
+figure_some None h e = absurd (cc)
 
-pub figure_none : (o : Option ℕ) → is_some o ≡ false → figure o ≡ 0
-figure_none (Some x) h = absurd (cc)
-figure_none None h = refl
+pub figure_none : {n : ℕ} (o : Option ℕ) → is_some o ≡ false → figure o ≡ n → n ≡ 0
+figure_none (Some x) h e = absurd (cc)
+figure_none None h e = sym e
 
 -- ---- an item is seen
 

@@ -1,4 +1,4 @@
-use Rattle.std.proofs.Common.{refl, rules, arith}
+use Rattle.std.proofs.Common.{refl, rules}
 use Rattle.searching.proofs.Words.{figure_some}
 use Rattle.chains.proofs.Extending.{flip_asked, going_more, going_less, not_end, going_start, going_end, in_vain}
 use Rattle.chains.proofs.extend.Goals as goal
@@ -6,7 +6,7 @@ use Rattle.chains.proofs.extend.Goals as goal
 pub returns-then-is_some : goal.returns-then-is_some
 returns-then-is_some c =
     not_end c.args.w.now c.args.base c.args.m c.args.a c.requires.0
-    (omega (arith, c.next_of.ensures, figure_some c.next_of.result (search rules)))
+    (search (rules, figure_some))
 
 pub returns-in_default : goal.returns-in_default
 returns-in_default c =
@@ -26,19 +26,19 @@ flip-item-requires c =
     let (tail, s) = at.invariant in
     flip_asked c.search.new.w at.w c.args.base c.args.m tail at.item c.in-Some-item.b s c.in-Some-item.is
 
-pub loop-item-smaller : goal.loop-item-smaller
-loop-item-smaller c =
-    let at = c.loop-item in
-    let (tail, s) = at.invariant in
-    let k = c.flip-item in
-    going_less c.search.new.w at.w c.args.base c.args.m tail at.item c.in-Some-item.b s c.in-Some-item.is k.new.w k.result k.ensures
-
 pub loop-item-preserved : goal.loop-item-preserved
 loop-item-preserved c =
     let at = c.loop-item in
     let (tail, s) = at.invariant in
     let k = c.flip-item in
     (tail, going_more c.search.new.w at.w c.args.base c.args.m tail at.item c.in-Some-item.b s c.in-Some-item.is k.new.w k.result k.ensures)
+
+pub loop-item-smaller : goal.loop-item-smaller
+loop-item-smaller c =
+    let at = c.loop-item in
+    let (tail, s) = at.invariant in
+    let k = c.flip-item in
+    going_less c.search.new.w at.w c.args.base c.args.m tail at.item c.in-Some-item.b s c.in-Some-item.is k.new.w k.result k.ensures
 
 pub returns : goal.returns
 returns c =

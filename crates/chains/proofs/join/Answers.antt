@@ -1,10 +1,6 @@
 -- `chains::join` meets its contract. Assumes nothing.
-use native.Mathlib.Omega.{arith}
 use Rattle.chains.proofs.Joining.{chained_pairs, joined_from}
 use Rattle.chains.proofs.join.Goals as goal
-
-pub first_pairs-requires : goal.first_pairs-requires
-first_pairs-requires c = c.requires
 
 pub extend_all-requires : goal.extend_all-requires
 extend_all-requires c =
@@ -16,6 +12,3 @@ returns c =
     let p = c.first_pairs in
     let x = c.extend_all in
     joined_from c.args.w.now p.new.w c.args.base c.args.m c.requires.0 p.ensures x.new.w x.ensures
-
-pub shape_of-w : goal.shape_of-w
-shape_of-w c = omega (arith, (returns c).outside.same_length)

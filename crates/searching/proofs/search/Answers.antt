@@ -1,6 +1,4 @@
 use native.Mathlib.Omega.{arith}
-use lib.ListN.{set}
-use Rattle.bits.specs.Work.{queue_at}
 use Rattle.searching.proofs.Looking.{looking_start, looking_more, looking_found, looking_end}
 use Rattle.searching.proofs.search.Goals as goal
 
@@ -12,18 +10,16 @@ returns-in-Found-clause-searched c =
     let a = c.args in
     let at = c.loop-head in
     let (tail, low, h) = c.in-Found.ensures in
-    looking_found a.w.now a.base a.m a.a c.requires.0 c.requires.1 c.requires.2 at.w c.show.new.w at.head at.tail c.in-Found.item
-    tail at.invariant h low
+    looking_found a.w.now a.base a.m a.a c.requires.0 at.w at.head at.tail at.invariant c.show.new.w c.in-Found.item tail h low
 
 pub loop-head-preserved : goal.loop-head-preserved
 loop-head-preserved c =
     let a = c.args in
     let at = c.loop-head in
-    looking_more (set a.w.now queue_at a.a) at.w c.show.new.w a.base a.m a.a at.head at.tail a.m c.in-Queued.end at.invariant
-    c.in-Queued.ensures (omega arith)
+    looking_more a.w.now a.base a.m a.a c.requires.0 at.w at.head at.tail at.invariant c.show.new.w c.in-Queued.end c.in-Queued.ensures
 
 pub returns-clause-searched : goal.returns-clause-searched
 returns-clause-searched c =
+    let a = c.args in
     let at = c.loop-head in
-    looking_end c.args.w.now c.args.base c.args.m c.args.a c.requires.0 c.requires.1 c.requires.2
-    at.w at.head at.tail at.invariant (omega arith)
+    looking_end a.w.now a.base a.m a.a c.requires.0 at.w at.head at.tail at.invariant (omega arith)

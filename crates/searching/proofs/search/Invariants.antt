@@ -5,7 +5,7 @@ use Rattle.searching.proofs.Looking.{Looking}
 use Rattle.searching.proofs.search.Given as goal
 
 abbrev pub invariant-loop-head : goal.invariant-loop-head
-invariant-loop-head l = Looking l.initial.w l.w l.base l.m l.a l.head l.tail
+invariant-loop-head l = Looking l.fn.w l.w l.base l.m l.a l.head l.tail
 
 abbrev pub decreases-loop-head : goal.decreases-loop-head
 decreases-loop-head l = l.m - l.head

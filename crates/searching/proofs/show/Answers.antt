@@ -16,7 +16,7 @@ returns-then-is_none c =
       c.if-b-m.true,
       showing_found a.w.now at.w a.base a.m a.head _ at.end at.from b.b c.requires.0 at.invariant b.ensures c.see.new.w c.if-b-m.true
           c.see.ensures
-          (omega (arith, c.previous_of.ensures, figure_none c.previous_of.result (search rules))),
+          (search (rules, figure_none)),
     )
 
 pub loop-b-preserved : goal.loop-b-preserved
@@ -26,7 +26,7 @@ loop-b-preserved c =
     let b = c.in-Some in
     showing_more a.w.now at.w a.base a.m a.head _ at.end at.from b.b c.requires.0 at.invariant b.ensures c.see.new.w c.if-b-m.true
     c.see.ensures
-    (omega (arith, c.previous_of.ensures, figure_some c.previous_of.result (search rules)))
+    (search (rules, figure_some))
 
 pub returns-in-loop-b : goal.returns-in-loop-b
 returns-in-loop-b c =
