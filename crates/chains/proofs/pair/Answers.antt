@@ -10,4 +10,4 @@ returns-then-b-m c =
     let s = c.set_bit in
     let p = c.put_behind in
     pair_one a.w.now a.base a.m a.a c.requires.1 s.new.w p.new.w b.b c.requires.0 (omega arith) (omega arith)
-    b.ensures s.ensures p.ensures
+    b.ensures.first s.ensures p.ensures

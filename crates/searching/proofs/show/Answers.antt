@@ -14,7 +14,7 @@ returns-then-is_none c =
     let b = c.in-Some in (
       at.end,
       c.if-b-m.true,
-      showing_found a.w.now at.w a.base a.m a.head _ at.end at.from b.b c.requires.0 at.invariant b.ensures c.see.new.w c.if-b-m.true
+      showing_found a.w.now at.w a.base a.m a.head _ at.end at.from b.b c.requires.0 at.invariant b.ensures.first c.see.new.w c.if-b-m.true
           c.see.ensures
           (search (rules, figure_none)),
     )
@@ -24,7 +24,7 @@ loop-b-preserved c =
     let a = c.args in
     let at = c.loop-b in
     let b = c.in-Some in
-    showing_more a.w.now at.w a.base a.m a.head _ at.end at.from b.b c.requires.0 at.invariant b.ensures c.see.new.w c.if-b-m.true
+    showing_more a.w.now at.w a.base a.m a.head _ at.end at.from b.b c.requires.0 at.invariant b.ensures.first c.see.new.w c.if-b-m.true
     c.see.ensures
     (search (rules, figure_some))
 
@@ -33,7 +33,7 @@ returns-in-loop-b c =
     let a = c.args in
     let at = c.loop-b in
     let none : place_or_end c.next_new.result ≡ 256 = cc in
-    showing_end a.w.now at.w a.base a.m a.head _ at.end at.from (place_or_end c.next_new.result) c.requires.0 at.invariant c.next_new.ensures
+    showing_end a.w.now at.w a.base a.m a.head _ at.end at.from (place_or_end c.next_new.result) c.requires.0 at.invariant c.next_new.ensures.first
     (omega (arith, c.requires.0.items))
 
 pub returns-else-b-m : goal.returns-else-b-m
@@ -41,4 +41,4 @@ returns-else-b-m c =
     let a = c.args in
     let at = c.loop-b in
     let b = c.in-Some in
-    showing_end a.w.now at.w a.base a.m a.head _ at.end at.from b.b c.requires.0 at.invariant b.ensures c.if-b-m.false
+    showing_end a.w.now at.w a.base a.m a.head _ at.end at.from b.b c.requires.0 at.invariant b.ensures.first c.if-b-m.false
