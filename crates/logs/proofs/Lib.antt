@@ -10,5 +10,6 @@ pub mod Rest
 pub mod WellFormed
 pub mod Laws
 pub mod Walk
+pub mod Passing
 pub mod Older
 pub mod Worked

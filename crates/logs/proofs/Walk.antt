@@ -15,7 +15,7 @@ use Rattle.logs.proofs.Laws.{from_word_below, to_word_below, pass_from, pass_to}
 use Rattle.logs.proofs.WellFormed.{well_formed, passes_own}
 
 -- from one place up to another
-up : (P : ℕ → Type 0) (a b : ℕ) → a ≤ b → P a → ((p : ℕ) → a ≤ p → p < b → P p → P (p + 1)) → P b
+pub up : (P : ℕ → Type 0) (a b : ℕ) → a ≤ b → P a → ((p : ℕ) → a ≤ p → p < b → P p → P (p + 1)) → P b
 up P a zero h z s = subst P (omega arith) z
 up P a (suc b) h z s = go (ℕ_discrete a (suc b)) (λ le. up P a b le z (λ p l m. s p l (omega arith)))
   where

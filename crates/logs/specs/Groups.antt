@@ -1,6 +1,6 @@
 -- The groups of a log: what the words before a place give, and the to words of a group.
 use Rattle.std.specs.Prelude.{◌≡◌, true, false, List, [], ◌∷◌, map, ℕ, ◌+◌, ◌≤◌, ◌<◌, length, get_or, take, drop}
-use Rattle.logs.specs.Words.{kind, number}
+use Rattle.logs.specs.Words.{kind, number, to_episode, to_pause}
 use Rattle.logs.specs.Content.{Heard, joins}
 use Rattle.logs.specs.Log.{is_from, to_before_last, heard_from}
 
@@ -34,3 +34,7 @@ pub record Starts (l : List ℕ) (p : ℕ) : Type 0 where
   pub behind : 0 < p
   pub within : p < length l
   pub starts : p + 1 < length l → kind (get_or l p 0) ≡ 2
+
+-- the link that the to word `w` gives in a group of `a`
+abbrev pub told : ℕ → ℕ → Heard
+told a w = record { from = a; to = to_episode w; pause = to_pause w }
