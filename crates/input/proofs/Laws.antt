@@ -9,8 +9,8 @@ use lib.Seq.{take_at, drop_at}
 use borrow.Author.Tests.{leb-true, eqb-true}
 use Rattle.logs.specs.Answer.{given, question}
 use Rattle.logs.proofs.Asked.{asked}
-use Rattle.input.specs.Input.{most_bytes, words_of, bytes_asked, WordsTaken}
-use Rattle.input.specs.declared.Taken.TheVariants.{Words}
+use Rattle.input.specs.Input.{most_bytes, words_of, WordsTaken}
+use Rattle.std.specs.Prelude.{Ok}
 
 -- four bytes to a word
 pub words_count : (b : List ℕ) → length (words_of b) ≡ length b / 4
@@ -30,8 +30,7 @@ pub record InWords (b w w' : List ℕ) (n : ℕ) : Type 0 where
   pub words : take n w' ≡ words_of b
   pub behind : drop n w' ≡ drop n w
 
-pub bytes_in_words : (b w w' : List ℕ) (n : ℕ) → WordsTaken b w w' (Words n) → InWords b w w' n
-unfolding bytes_asked
+pub bytes_in_words : (b w w' : List ℕ) (n : ℕ) → WordsTaken b w w' (Ok n) → InWords b w w' n
 bytes_in_words b w w' n z =
     let k = length b in
     let rest = question 11 (k / 4) (leb (k / 4) (length w)) (given (k / 4)) in

@@ -1,4 +1,3 @@
 -- Laws of the words of bytes, and what the proofs of the functions cite. Laws is the module to read first.
 pub mod Words
-pub mod Asked
 pub mod Laws

@@ -1,8 +1,7 @@
 -- The bytes of a log as words: questions 14, 15 and 11, and the words.
-use Rattle.std.specs.Prelude.{◌≡◌, List, [], ◌∷◌, ◌++◌, ℕ, ◌+◌, ◌*◌, ◌/◌, ◌%◌, eqb, leb, length, get_or, drop}
-use Rattle.logs.specs.Answer.{Answer, given, refused, question}
-use Rattle.input.specs.declared.Taken.{Taken}
-use Rattle.input.specs.declared.Taken.TheVariants.{Words, Refused}
+use Rattle.std.specs.Prelude.{◌≡◌, List, [], ◌∷◌, ◌++◌, ℕ, ◌+◌, ◌*◌, ◌/◌, ◌%◌, eqb, leb, length, get_or, drop, Result}
+use Rattle.logs.specs.Answer.{Answer, given, refused, question, result_answer}
+use Rattle.logs.specs.declared.Refusal.{Refusal}
 
 -- the most bytes: those of the longest log that passes, 2 + 2 * 4,096 words
 abbrev pub most_bytes : ℕ
@@ -25,12 +24,11 @@ abbrev pub word_at : List ℕ → ℕ → ℕ
 word_at b at = word_of (get_or b at 0) (get_or b (at + 1) 0) (get_or b (at + 2) 0) (get_or b (at + 3) 0)
 
 -- the bytes' answer in numbers: the count of words, or a refusal
-abbrev pub taken_answer : Taken → Answer ℕ
-taken_answer (Words n) = given n
-taken_answer (Refused q p) = refused q p
+abbrev pub taken_answer : Result ℕ Refusal → Answer ℕ
+taken_answer = result_answer (λ n. n)
 
 -- Questions 14, 15 and 11, of `bytes` bytes and `lent` words.
-unfoldable pub bytes_asked : ℕ → ℕ → Answer ℕ
+abbrev pub bytes_asked : ℕ → ℕ → Answer ℕ
 bytes_asked bytes lent =
     question 14 most_bytes (leb bytes most_bytes)
     (question 15 bytes (eqb (bytes % 4) 0) (question 11 (bytes / 4) (leb (bytes / 4) lent) (given (bytes / 4))))
@@ -41,6 +39,6 @@ words_after b w (given n) = words_of b ++ drop n w
 words_after b w (refused q p) = w
 
 -- What the call on the bytes `b` and the lent words `w` answers, and what it leaves in them, `w'`.
-pub record WordsTaken (b w w' : List ℕ) (r : Taken) : Type 0 where
+pub record WordsTaken (b w w' : List ℕ) (r : Result ℕ Refusal) : Type 0 where
   pub answer : taken_answer r ≡ bytes_asked (length b) (length w)
   pub words : w' ≡ words_after b w (taken_answer r)

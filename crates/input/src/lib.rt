@@ -6,65 +6,49 @@ ghost use Rattle.std.specs.Io.{ReadsAtMost};
 ghost use Rattle.std.specs.Io.KnownBytes.{Consumes, IsAtEnd};
 ghost use Rattle.input.specs.Input.{words_of, word_at, WordsTaken};
 
+use logs::{Reason, Refusal};
 use std::io;
 use std::io::Read;
 
 // The most bytes: those of the longest log that passes, 2 + 2 * 4,096 words.
 pub const MOST_BYTES: usize = 32776;
 
-// The bytes taken: the count of their words, or the number and place of the refusal.
-#[derive(Clone, Copy)]
-pub enum Taken {
-    Words(usize),
-    Refused(u32, usize),
-}
-
-fn wide(b: u8) -> u32
-    ensures { (result ≡ b) × (result < 256) }
-{
-    b as u32
-}
-
 // The word of the four bytes from `at` on, the lowest first.
 fn word_at(bytes: &[u8], at: usize) -> u32
     requires { at + 4 ≤ length bytes.now }
     ensures { result ≡ word_at bytes.now at }
 {
-    wide(bytes[at])
-        + 256 * wide(bytes[at + 1])
-        + 65536 * wide(bytes[at + 2])
-        + 16777216 * wide(bytes[at + 3])
+    u32::from_le_bytes([bytes[at], bytes[at + 1], bytes[at + 2], bytes[at + 3]])
 }
 
-// Writes the words of the bytes, which are four for each of `count`.
-fn fill(bytes: &[u8], words: &mut [u32], count: usize)
-    requires { (length bytes.now ≡ 4 * count) × (count ≤ length words.old) }
-    ensures { words.new ≡ words_of bytes.now ++ drop count words.old }
+// Writes the words of the bytes, which are four for each.
+fn fill(bytes: &[u8], words: &mut [u32])
+    requires { length bytes.now ≡ 4 * length words.old }
+    ensures { words.new ≡ words_of bytes.now }
 {
-    let mut i = 0;
-    while i < count {
-        words[i] = word_at(bytes, 4 * i);
-        i += 1;
+    for (i, word) in words.iter_mut().enumerate() {
+        *word = word_at(bytes, 4 * i);
     }
 }
 
-// Questions 14, 15 and 11; then the lent words begin with the words of the bytes, four bytes to a word, the lowest first.
-pub fn words_of(bytes: &[u8], words: &mut [u32]) -> Taken
+// Questions 14, 15 and 11; then the lent words begin with the words of the bytes, four bytes to a word, the lowest first. Gives the count of
+// these words.
+pub fn words_of(bytes: &[u8], words: &mut [u32]) -> Result<usize, Refusal>
     ensures { WordsTaken bytes.now words.old words.new result }
 {
     let length = bytes.len();
     if MOST_BYTES < length {
-        return Taken::Refused(14, MOST_BYTES);
+        return Err(Reason::TooManyBytes.at(MOST_BYTES));
     }
     if length % 4 != 0 {
-        return Taken::Refused(15, length);
+        return Err(Reason::PartOfAWord.at(length));
     }
     let count = length / 4;
     if words.len() < count {
-        return Taken::Refused(11, count);
+        return Err(Reason::OutputTooShort.at(count));
     }
-    fill(bytes, words, count);
-    Taken::Words(count)
+    fill(bytes, &mut words[..count]);
+    Ok(count)
 }
 
 // Reads until the buffer is full or the input ends, and gives the count of bytes that it put at the start of the buffer; the error where
