@@ -17,7 +17,7 @@ use Rattle.paths.proofs.Passing.{passing_more, passing_same, length_passing, pas
 use Rattle.chains.proofs.Threads.{threads_none, threads_snoc}
 use Rattle.chains.proofs.Reports.{thread_short}
 use Rattle.writing.specs.Layout.{BeginsWith, thread_words, threads_words}
-use Rattle.writing.specs.Writing.{Solved, ThreadWritten, ThreadsWritten}
+use Rattle.writing.specs.Writing.{Solved, ThreadWritten}
 use Rattle.writing.proofs.Layouts.{threads_words_snoc, length_thread}
 use Rattle.writing.proofs.Buffers.{length_snoc, begins_none, begins_length, begins_part, lent_part, lent_rest}
 
@@ -79,13 +79,6 @@ bundling_none w n o =
 module _ {w : List ℕ} {n : ℕ} {o o' : List ℕ} {at v : ℕ} (b : Bundling w n o o' at v) where
   pub bundling_length : length o' ≡ length o
   bundling_length = begins_length (threads_words b.threads) o o' b.words
-
-  pub bundling_at : at ≤ length o'
-  bundling_at =
-      let e = b.size in
-      let l = bundling_length in
-      let le : length (threads_words b.threads) ≤ length o = b.words.0 in
-      omega arith
 
   -- `v` is not a member
   pub bundling_same : v < n → member_test (tables w) v ≡ false → Bundling w n o o' at (v + 1)
@@ -154,14 +147,3 @@ module _ {w : List ℕ} {n : ℕ} {o o' : List ℕ} {at v : ℕ} (b : Bundling w
         → o'' ≡ take at o' ++ (p ++ drop (length o' - at) (drop at o')) → at' ≡ at + r → Bundling w n o o'' at' (v + 1)
     bundling_lent {p} {o''} {r} {at'} t k l =
         rw (k, l, lent_rest o' p at) (bundling_more p r (rw (lent_part o' at) at t))
-
-  pub bundling_ends : n ≤ v → ThreadsWritten w o o' n at
-  bundling_ends h =
-      let le = b.v_le in
-      let e : v ≡ n = omega arith in
-      record {
-        threads = b.threads;
-        size = b.size;
-        words = b.words;
-        of = λ g q. rw e at (b.of g q);
-      }

@@ -1,4 +1,6 @@
 -- A thread that is being written: the chain's episodes up to one, with the links of paths between them.
+use Rattle.std.proofs.Math.Logic.{∥∥₁_elim}
+use Rattle.std.proofs.Props.{props}
 use mathlib.Core.Path.{◌≡◌, refl, sym, ap, subst, ◌∙◌}
 use mathlib.Core.Logic.{◌⊎◌, inl, inr, ⊎_elim}
 use mathlib.Core.List.Memᴰ
@@ -25,12 +27,12 @@ use Rattle.paths.proofs.Numbers.{nodup_below}
 use Rattle.logs.specs.Words.{word}
 use Rattle.bits.specs.Bits.{bit}
 use Rattle.bits.specs.Work.{ways_at}
-use Rattle.searching.specs.Items.{Steps}
+use Rattle.searching.specs.Items.{Matching, Steps}
 use Rattle.searching.specs.State.{tables}
-use Rattle.chains.proofs.Steps.{steps_trans, steps_same, steps_first, steps_last, steps_end, next_below, steps_below, steps_join}
+use Rattle.chains.proofs.Steps.{steps_trans, steps_same, steps_first, steps_last, steps_end, next_below as following_below, steps_below, steps_join}
 use Rattle.writing.specs.Layout.{BeginsWith, thread_words}
 use Rattle.writing.specs.Path.{PathWritten}
-use Rattle.writing.specs.Writing.{Solved, StartOf, ThreadWritten}
+use Rattle.writing.specs.Writing.{Solved, IsSolved, StartOf, ThreadWritten}
 use Rattle.writing.proofs.Buffers.{length_snoc, begins_length, begins_first, begins_second, begins_over, begins_part, lent_part, lent_rest}
 
 chain_join : {A : Type 0} {R : A → A → Type 0} {a : A} {p : List A} (l : List A) → Chain R (l ++ (a ∷ [])) → Chain R (a ∷ p) → Chain R (l ++ (a ∷ p))
@@ -78,8 +80,8 @@ module _ {w : List ℕ} {n s : ℕ} (o : List ℕ) (below : s < n) where
       }
 
   -- there is room for it
-  pub starts_room : {g : Graph} → Solved g n w → ((th : List ℕ) → Thread g th → length th + 1 ≤ length o) → 1 < length o
-  starts_room q room = room (s ∷ []) (thread_single (rw q.count below))
+  pub starts_room : IsSolved n w → ((g : Graph) → Solved g n w → (th : List ℕ) → Thread g th → length th + 1 ≤ length o) → 1 < length o
+  starts_room solved room = ∥∥₁_elim solved (search props) (λ (g, q). room g q (s ∷ []) (thread_single (rw q.count below)))
 
 module _ {w : List ℕ} {n v : ℕ} {o o' : List ℕ} {at count : ℕ} (f : Filling w n v o o' at count) where
   pub filling_length : length o' ≡ length o
@@ -93,24 +95,19 @@ module _ {w : List ℕ} {n v : ℕ} {o o' : List ℕ} {at count : ℕ} (f : Fill
       let c = f.size in
       omega arith
 
-  -- they are some of the buffer's
-  pub filling_at : count ≤ length o'
-  filling_at =
-      let le : length (f.first ∷ map (word 7) (f.before ++ (at ∷ []))) ≤ length o = f.words.0 in
-      let e = filling_count in
-      let l = filling_length in
-      omega arith
-
   -- the thread of a graph has at most as many steps as there are episodes
-  pub filling_le : {g : Graph} → Solved g n w → count ≤ n + 1
-  filling_le {g} q =
-      let th = f.thread g q in
-      let le : length (f.before ++ (at ∷ [])) ≤ g.n =
-      nodup_below g.n (f.before ++ (at ∷ [])) (thread_nodup q.acyclic th) th.episodes in
-      let e = length_snoc f.before at in
-      let h = f.size in
-      let c = q.count in
-      omega arith
+  pub filling_le : IsSolved n w → count ≤ n + 1
+  filling_le solved = ∥∥₁_elim solved (search props) (λ (g, q). le g q)
+    where
+      le : (g : Graph) → Solved g n w → count ≤ n + 1
+      le g q =
+          let th = f.thread g q in
+          let le : length (f.before ++ (at ∷ [])) ≤ g.n =
+          nodup_below g.n (f.before ++ (at ∷ [])) (thread_nodup q.acyclic th) th.episodes in
+          let e = length_snoc f.before at in
+          let h = f.size in
+          let c = q.count in
+          omega arith
 
   -- what goes on from `at` fits into the part behind the words
   pub filling_room : {g : Graph} → Solved g n w → ((th : List ℕ) → Thread g th → length th + 1 ≤ length o) → (p : List ℕ) → Thread g (at ∷ p)
@@ -124,21 +121,23 @@ module _ {w : List ℕ} {n v : ℕ} {o o' : List ℕ} {at count : ℕ} (f : Fill
       rw (lent_part o' count) (omega arith)
 
   module _ {target : ℕ} (next : (tables w).next at ≡ target + 1) where
+    next_below : Matching n (tables w) → target < n
+    next_below m = following_below m f.at_below next
+
     -- a way leads to the next of the chain
-    pub next_way : {g : Graph} → Solved g n w → (target < n) × (bit w (ways_at + 8 * at) target ≡ 1)
-    next_way q = (
-      below,
-      q.ways.complete at target (let few = q.few in let l = f.at_below in omega arith) (let few = q.few in let l = below in omega arith)
-          (q.pairs at target f.at_below below next),
-    )
-      where
-        below : target < n
-        below = next_below q.matching f.at_below next
+    pub next_way : Matching n (tables w) → IsSolved n w → (target < n) × (bit w (ways_at + 8 * at) target ≡ 1)
+    next_way m solved =
+        let below = next_below m in
+        let at_below = f.at_below in (
+          below,
+          ∥∥₁_elim solved (search props)
+              (λ (g, q). q.ways.complete at target (omega (arith, q.few)) (omega (arith, q.few)) (q.pairs at target at_below below next)),
+        )
 
     -- the steps of a path to it are written behind the others
-    path_more : {g : Graph} → Solved g n w → (p : List ℕ) (r : ℕ) → PathWritten w (drop count o') p n at target r
+    path_more : Matching n (tables w) → (p : List ℕ) (r : ℕ) → PathWritten w (drop count o') p n at target r
         → Filling w n v o (take count o' ++ p) target (count + r)
-    path_more q p r t =
+    path_more m p r t =
         record {
           before = f.before ++ (at ∷ t.between);
           first = f.first;
@@ -155,12 +154,12 @@ module _ {w : List ℕ} {n v : ℕ} {o o' : List ℕ} {at count : ℕ} (f : Fill
               (sym (ap (map (word 7)) whole ∙ map-append (word 7) (f.before ++ (at ∷ [])) (t.between ++ (target ∷ []))))
               (begins_part (f.first ∷ map (word 7) (f.before ++ (at ∷ []))) o o' f.words (map (word 7) (t.between ++ (target ∷ []))) p count
               (sym filling_count) t.words);
-          at_below = (next_way q).0;
+          at_below = next_below m;
           thread = λ g' q'.
               rw (append_assoc f.before (at ∷ t.between) (target ∷ [])) (thread_join f.before (f.thread g' q') (t.of g' q'));
-          holds = λ x m.
+          holds = λ x h.
               ⊎_elim (λ k. inl (there x k))
-              (λ k. ⊎_elim (λ e. inl (there x (Memᴰ.append_right f.before (here (sym e))))) inr (steps_first next k)) (f.holds x m);
+              (λ k. ⊎_elim (λ e. inl (there x (Memᴰ.append_right f.before (here (sym e))))) inr (steps_first next k)) (f.holds x h);
         }
       where
         whole : (f.before ++ (at ∷ t.between)) ++ (target ∷ []) ≡ (f.before ++ (at ∷ [])) ++ (t.between ++ (target ∷ []))
@@ -172,9 +171,9 @@ module _ {w : List ℕ} {n v : ℕ} {o o' : List ℕ} {at count : ℕ} (f : Fill
         there x k = rw whole (Memᴰ.append_left (t.between ++ (target ∷ [])) k)
 
     -- the same, as the part that was lent comes back
-    pub filling_more : {g : Graph} → Solved g n w → {p : List ℕ} {r : ℕ} → PathWritten w (take (length o' - count) (drop count o')) p n at target r
+    pub filling_more : Matching n (tables w) → {p : List ℕ} {r : ℕ} → PathWritten w (take (length o' - count) (drop count o')) p n at target r
         → Filling w n v o (take count o' ++ (p ++ drop (length o' - count) (drop count o'))) target (count + r)
-    filling_more q {p} {r} t = rw (lent_rest o' p count) (path_more q p r (rw (lent_part o' count) at t))
+    filling_more m {p} {r} t = rw (lent_rest o' p count) (path_more m p r (rw (lent_part o' count) at t))
 
   -- at the end of the chain
   pub filling_ends : (tables w).next at ≡ 0 → ThreadWritten w o (set o' 0 (word 6 (count - 1))) n v count
@@ -227,9 +226,9 @@ module _ {w : List ℕ} {n v : ℕ} {o o' : List ℕ} {at count : ℕ} (f : Fill
 
 -- with the path there are more words, and at most as many as a thread has
 pub filling_less : {w : List ℕ} {n v : ℕ} {o o' : List ℕ} {at target count : ℕ} (f : Filling w n v o o' at count) → (tables w).next at ≡ target + 1
-    → {g : Graph} → Solved g n w → {p : List ℕ} {r : ℕ} → PathWritten w (take (length o' - count) (drop count o')) p n at target r
-    → (0 < r) × (count + r ≤ n + 1)
-filling_less f next q t = (let e = t.size in omega arith, filling_le (filling_more f next q t) q)
+    → Matching n (tables w) → IsSolved n w → {p : List ℕ} {r : ℕ}
+    → PathWritten w (take (length o' - count) (drop count o')) p n at target r → (0 < r) × (count + r ≤ n + 1)
+filling_less f next m solved t = (let e = t.size in omega arith, filling_le (filling_more f next m t) solved)
 
 -- what was stored there before does not matter
 pub written_over : {w o o' : List ℕ} {n v r : ℕ} (x : ℕ) → 1 < r → ThreadWritten w (set o 1 x) o' n v r → ThreadWritten w o o' n v r

@@ -1,9 +1,7 @@
 -- Laws of the layout, and how each function writes its words.
 pub mod Layouts
 pub mod Buffers
-pub mod Tests
 pub mod Listing
-pub mod Apart
 pub mod Starts
 pub mod Hops
 pub mod Stepping

@@ -1,5 +1,7 @@
 -- A path that is being written: its steps so far, from which any thread from the last one leads on.
-use mathlib.Core.Path.{◌≡◌, refl, subst}
+use Rattle.std.proofs.Math.Logic.{∥∥₁_elim}
+use Rattle.std.proofs.Props.{props}
+use mathlib.Core.Path.{◌≡◌, subst}
 use mathlib.Core.List.{List, [], ◌∷◌, ◌++◌, map, map-append, append_assoc}
 use Prim.Native.Nat.{ℕ, ◌+◌, ◌≤◌, ◌<◌}
 use native.Mathlib.Omega.{arith}
@@ -11,8 +13,8 @@ use Rattle.paths.proofs.Numbers.{nodup_below}
 use Rattle.logs.specs.Words.{word}
 use Rattle.writing.specs.Layout.{BeginsWith}
 use Rattle.writing.specs.Path.{PathWritten}
-use Rattle.writing.specs.Writing.{Solved, HopTo}
-use Rattle.writing.proofs.Buffers.{length_snoc, begins_none, begins_length, begins_more}
+use Rattle.writing.specs.Writing.{Solved, IsSolved, HopTo}
+use Rattle.writing.proofs.Buffers.{length_snoc, begins_length, begins_more}
 
 -- The words are the steps behind `c` of a path from `c` to `at`.
 pub record Stepping (w : List ℕ) (n c : ℕ) (o o' : List ℕ) (at count : ℕ) : Type 0 where
@@ -21,9 +23,6 @@ pub record Stepping (w : List ℕ) (n c : ℕ) (o o' : List ℕ) (at count : ℕ
   pub words : BeginsWith (map (word 7) steps) o o'
   pub below : at < n
   pub joins : (g : Graph) → Solved g n w → (p : List ℕ) → Thread g (at ∷ p) → Thread g (c ∷ (steps ++ p))
-
-pub stepping_none : (w : List ℕ) {n c : ℕ} (o : List ℕ) → c < n → Stepping w n c o o c 0
-stepping_none w o h = record { steps = []; size = refl; words = begins_none o; below = h; joins = λ g q p t. t }
 
 module _ {w : List ℕ} {n c : ℕ} {o o' : List ℕ} {at count : ℕ} (s : Stepping w n c o o' at count) where
   pub stepping_length : length o' ≡ length o
@@ -36,7 +35,7 @@ module _ {w : List ℕ} {n c : ℕ} {o o' : List ℕ} {at count : ℕ} (s : Step
       (begins_more (map (word 7) s.steps) o o' s.words count (word 7 r)
       (let e = s.size in let d = length-map s.steps (word 7) in omega arith) l)
 
-  module _ {b r : ℕ} (h : HopTo w at b r) where
+  module _ {b r : ℕ} (solved : IsSolved n w) (h : HopTo w at b r) where
     module _ {g : Graph} (q : Solved g n w) where
       hop_link : Link g at r
       hop_link = q.links.sound at r (let few = q.few in let l = s.below in omega arith) h.below h.link
@@ -52,30 +51,36 @@ module _ {w : List ℕ} {n c : ℕ} {o o' : List ℕ} {at count : ℕ} (s : Step
       longer = hop_joins [] (thread_single (q.ends at r hop_link).1)
 
       -- it fits where every path does
-      pub stepping_room : ((p : List ℕ) → Thread g (c ∷ p) → length p ≤ length o) → count < length o
-      stepping_room room =
+      fits : ((p : List ℕ) → Thread g (c ∷ p) → length p ≤ length o) → count < length o
+      fits room =
           let le = room (s.steps ++ (r ∷ [])) longer in
           let e = length_snoc s.steps r in
           let z = s.size in
           omega arith
 
       -- and has at most as many steps as there are episodes
-      pub stepping_less : count < n
-      stepping_less =
+      less : count < n
+      less =
           let le : length (c ∷ (s.steps ++ (r ∷ []))) ≤ g.n = nodup_below g.n _ (thread_nodup q.acyclic longer) longer.episodes in
           let e = length_snoc s.steps r in
           let z = s.size in
           let k = q.count in
           omega arith
 
+    pub stepping_room : ((g : Graph) → Solved g n w → (p : List ℕ) → Thread g (c ∷ p) → length p ≤ length o) → count < length o
+    stepping_room room = ∥∥₁_elim solved (search props) (λ (g, q). fits q (room g q))
+
+    pub stepping_less : count < n
+    stepping_less = ∥∥₁_elim solved (search props) (λ (g, q). less q)
+
     -- a step that is not the last
-    pub stepping_more : {g : Graph} → Solved g n w → count < length o → Stepping w n c o (set o' count (word 7 r)) r (count + 1)
-    stepping_more q l =
+    pub stepping_more : count < length o → Stepping w n c o (set o' count (word 7 r)) r (count + 1)
+    stepping_more l =
         record {
           steps = s.steps ++ (r ∷ []);
           size = let e = length_snoc s.steps r in let z = s.size in omega arith;
           words = stepping_words r l;
-          below = hop_below q;
+          below = ∥∥₁_elim solved (search props) (λ (g, q). hop_below q);
           joins = λ g' q' p t. rw (append_assoc s.steps (r ∷ []) p) (hop_joins q' p t);
         }
 

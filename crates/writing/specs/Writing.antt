@@ -25,6 +25,10 @@ pub record Solved (g : Graph) (n : ℕ) (w : List ℕ) : Type 0 where
   pub pairs : (a b : ℕ) → a < n → b < n → (tables w).next a ≡ b + 1 → Way g a b
   pub exhausted : Exhausted n (Way g) (tables w)
 
+-- the work words hold so much of some graph
+abbrev pub IsSolved : ℕ → List ℕ → Type 0
+IsSolved n w = ∥ ((g : Graph) × Solved g n w) ∥₁
+
 -- the apart set: kind 4 with its size `k`, then its members
 pub record ApartWritten (w o o' : List ℕ) (n k : ℕ) : Type 0 where
   pub size : k ≡ length (members (tables w) n)

@@ -6,10 +6,10 @@ use Prim.Native.Nat.{◌+◌, ◌-◌, ◌*◌}
 use Rattle.bits.specs.Bits.{bit}
 use Rattle.bits.specs.Work.{ways_at}
 use Rattle.writing.proofs.Stepping.{Stepping}
-use Rattle.writing.proofs.write_path.Given as goal
+use Rattle.writing.proofs.Chains.write_path.Given as goal
 
 abbrev pub invariant-loop-at : goal.invariant-loop-at
-invariant-loop-at l = Stepping l.w l.n l.c l.initial.out l.out l.at l.count × (bit l.w (ways_at + 8 * l.at) l.b ≡ 1)
+invariant-loop-at l = Stepping l.self.words.now l.self.episodes l.c l.initial.out l.out l.at l.count × (bit l.self.words.now (ways_at + 8 * l.at) l.b ≡ 1)
 
 abbrev pub decreases-loop-at : goal.decreases-loop-at
-decreases-loop-at l = l.n - l.count
+decreases-loop-at l = l.self.episodes - l.count

@@ -1,19 +1,16 @@
 use mathlib.Core.Path.{sym, ◌∙◌}
-use native.Mathlib.Omega.{arith}
 use Rattle.writing.proofs.Bundling.{bundling_none, bundling_same, bundling_fits, bundling_lent}
-use Rattle.writing.proofs.write_threads.Goals as goal
-use Rattle.writing.proofs.write_threads.Goals.{then-is_member, else-is_member}
+use Rattle.writing.proofs.Chains.write_threads.Goals as goal
+use Rattle.writing.proofs.Chains.write_threads.Goals.{then-is_member, else-is_member}
 
 pub loop-v-init : goal.loop-v-init
-loop-v-init c = let a = c.args in bundling_none a.w.now a.n a.out.now
+loop-v-init c = bundling_none _ _ _
 
 pub write_thread-count-requires : goal.write_thread-count-requires
-write_thread-count-requires c =
-    let pre = c.requires in
-    let p = pre.0 in
-    let lt = c.loop-v-test.true in
-    let e = sym c.is_member.ensures ∙ c.if-is_member.true in
-    ((p.0, p.1, bundling_fits c.loop-v.invariant lt e pre.1 p.0 p.1), omega arith)
+write_thread-count-requires c = (
+  c.loop-v-test.true,
+  bundling_fits c.loop-v.invariant c.loop-v-test.true (sym c.is_member.ensures ∙ c.if-is_member.true) c.requires,
+)
 
 pub loop-v-preserved : goal.loop-v-preserved
 loop-v-preserved c =

@@ -1,0 +1,10 @@
+-- `writing::start_of` meets its contract. The invariant: the chain leads from `x` to `v`. The measure is how many have a way to `x`.
+-- Assumes nothing.
+use Rattle.writing.proofs.Starts.{ways_to, Starting}
+use Rattle.writing.proofs.Chains.start_of.Given as goal
+
+abbrev pub invariant-loop-before : goal.invariant-loop-before
+invariant-loop-before l = Starting l.self.words.now l.v l.x
+
+abbrev pub decreases-loop-before : goal.decreases-loop-before
+decreases-loop-before l = ways_to l.self.words.now l.x
