@@ -6,8 +6,8 @@ use native.Mathlib.Omega.{arith}
 use lib.ListN.{length, get_or, length-append, get_or-append}
 use lib.Seq.{get_or-append-add, get_or-append_right}
 use Rattle.paths.specs.Graph.{Graph, EndsBelow, Link}
-use Rattle.logs.specs.Log.{graph_of, PassedLog}
-use Rattle.logs.proofs.Laws.{links_below}
+use Rattle.logs.specs.Log.{graph_of, Passes}
+use Rattle.logs.proofs.Laws.{graph_episodes, links_below}
 use Rattle.bits.specs.Bits.{bit}
 use Rattle.bits.specs.Work.{links_at, ways_at, matrix_words, Matrix, next_at}
 use Rattle.bits.proofs.Frames.{outside_then, outside_wider, matrix_before}
@@ -86,11 +86,10 @@ closed_reached w w' w'' n c q =
 pub no_ways : (l w w' : List ℕ) → NoneMarked w → LinksMarked l w w' → NoWays w'
 no_ways l w w' none p i lo hi = p.outside.behind i lo ∙ none i hi
 
-pub reached : {w w' w'' : List ℕ} (l : List ℕ) (n : ℕ) → PassedLog l → (graph_of l).n ≡ n → LinksMarked l w w' → WaysReached w' w'' n
-    → ReachedLog l w w''
-reached l n (m, n', t, e, few) count p q =
+pub reached : {w w' w'' : List ℕ} (l : List ℕ) (n t : ℕ) → Passes l n t → LinksMarked l w w' → WaysReached w' w'' n → ReachedLog l w w''
+reached l n t e p q =
     record {
       outside = outside_then (outside_wider (omega arith) (omega arith) p.outside) (outside_wider (omega arith) (omega arith) q.outside);
       links = matrix_before (omega arith) q.outside p.links;
-      ways = q.ways (graph_of l) (links_below m l n' t e) count p.links;
+      ways = q.ways (graph_of l) (links_below _ l n t e) (graph_episodes _ l n t e) p.links;
     }

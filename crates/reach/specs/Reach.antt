@@ -1,10 +1,10 @@
 -- What the steps from a log to its matrix of ways leave.
-use Rattle.std.specs.Prelude.{◌≡◌, Option, Some, None, ℕ, ◌+◌, ◌*◌, ◌≤◌, ◌<◌, max, min, get_or}
-use mathlib.Core.List.{List, Memᴰ as Mem}
+use Rattle.std.specs.Prelude.{◌≡◌, Option, Some, None, ℕ, ◌+◌, ◌*◌, ◌≤◌, ◌<◌, max, min, length, get_or}
+use mathlib.Core.List.{List, ◌++◌, map, Memᴰ as Mem}
+use Rattle.logs.specs.Words.{to_episode}
 use Rattle.paths.specs.Graph.{Graph, EndsBelow, Link, Way}
 use Rattle.paths.specs.Closure.{WayBelow}
 use Rattle.logs.specs.Log.{graph_of}
-use Rattle.logs.specs.Groups.{links_before, ToWords}
 use Rattle.bits.specs.Bits.{bit}
 use Rattle.bits.specs.Work.{links_at, ways_at, matrix_words, Matrix, Outside, next_at}
 
@@ -12,15 +12,22 @@ use Rattle.bits.specs.Work.{links_at, ways_at, matrix_words, Matrix, Outside, ne
 abbrev pub NoneMarked : List ℕ → Type 0
 NoneMarked w = (i : ℕ) → i < next_at → get_or w i 0 ≡ 0
 
--- the first matrix holds the links of the words of the log before place `p`
-abbrev pub MarkedBefore : List ℕ → ℕ → List ℕ → Type 0
-MarkedBefore l p w = Matrix links_at w (λ a b. Mem (a, b) (links_before l p))
+-- the later episodes of the to words are below `n`
+abbrev pub EpisodesBelow : ℕ → List ℕ → Type 0
+EpisodesBelow n ws = (j : ℕ) → j < length ws → to_episode (get_or ws j 0) < n
 
--- the links of the to words from `start` on and before `p` are marked
-pub record GroupMarked (l : List ℕ) (start p : ℕ) (w w' : List ℕ) : Type 0 where
-  pub words : ToWords l start p
+-- the first matrix holds the links `ls`
+abbrev pub Marked : List (ℕ × ℕ) → List ℕ → Type 0
+Marked ls w = Matrix links_at w (λ a b. Mem (a, b) ls)
+
+-- the links that the to words `ws` give in a group of `a`
+abbrev pub links_of : ℕ → List ℕ → List (ℕ × ℕ)
+links_of a ws = map (λ w. (a, to_episode w)) ws
+
+-- the links of a group are marked besides
+pub record GroupMarked (a : ℕ) (ws w w' : List ℕ) : Type 0 where
   pub outside : Outside links_at ways_at w w'
-  pub links : MarkedBefore l start w → MarkedBefore l p w'
+  pub links : (ls : List (ℕ × ℕ)) → Marked ls w → Marked (ls ++ links_of a ws) w'
 
 -- the first matrix holds the links of the log
 pub record LinksMarked (l w w' : List ℕ) : Type 0 where

@@ -2,45 +2,32 @@
 #![tactic(auto)]
 
 ghost use Rattle.std.specs.Prelude.{◌≡◌, true, false, ◌+◌, ◌*◌, ◌<◌, ◌≤◌, IfSome, length};
-ghost use Rattle.logs.specs.Log.{to_before_last, graph_of, PassedLog};
-ghost use Rattle.logs.specs.Groups.{nearest_from};
 ghost use Rattle.bits.specs.Work.{links_at, next_at};
 ghost use Rattle.rising.specs.Rising.{NoWays};
-ghost use Rattle.reach.specs.Reach.{NoneMarked, GroupMarked, LinksMarked, LinksCopied, HoldsWays, RowClosed, RoundClosed, Closed, WaysReached};
+ghost use Rattle.reach.specs.Reach.{EpisodesBelow, NoneMarked, GroupMarked, LinksMarked, LinksCopied, HoldsWays, RowClosed, RoundClosed, Closed, WaysReached};
 ghost use Rattle.reach.specs.Reach.{ReachedLog, FirstLoop, episode_or};
 
 use bits::{LINKS, WAYS};
-use logs::ToWord;
+use logs::{Group, Log, ToWord};
 
-// Marks the to words of a group, the first of which stands at `start`, in the row of their from word, which starts at word `row`, and gives
-// the place behind them.
-fn mark_group(log: &[u32], start: usize, row: usize, w: &mut [u32]) -> usize
-    requires { PassedLog log.now × (0 < start) × (to_before_last log.now start ≡ true) × (row ≡ links_at + 8 * nearest_from log.now start)
-        × (nearest_from log.now start < 256) × (next_at ≤ length w.old) }
-    ensures { GroupMarked log.now start result w.old w.new × (to_before_last log.now result ≡ false) }
+// Marks the links of a group in the row of its episode.
+fn mark_group(group: Group, w: &mut [u32])
+    requires { (group.from < 256) × EpisodesBelow 256 group.to_words.now × (next_at ≤ length w.old) }
+    ensures { GroupMarked group.entry.from group.entry.to_words.now w.old w.new }
 {
-    let mut at = start;
-    loop {
-        let to = ToWord::from(log[at]);
-        bits::set_bit(w, row, to.episode);
-        at += 1;
-        if !logs::to_before_last(log, at) {
-            break;
-        }
+    let row = LINKS + 8 * group.from;
+    for to in group.to_words {
+        bits::set_bit(w, row, ToWord::from(*to).episode);
     }
-    at
 }
 
-// Marks the links of a log that passes, group by group.
-fn mark_links(log: &[u32], w: &mut [u32])
-    requires { PassedLog log.now × (next_at ≤ length w.old) × NoneMarked w.old }
-    ensures { LinksMarked log.now w.old w.new }
+// Marks the links of a log, group by group.
+fn mark_links(log: Log, w: &mut [u32])
+    requires { (log.episodes ≤ 256) × (next_at ≤ length w.old) × NoneMarked w.old }
+    ensures { LinksMarked log.entry.words.now w.old w.new }
 {
-    let last = log.len() - 1;
-    let mut at = 1;
-    while at < last {
-        let from = logs::number_of(log[at]);
-        at = mark_group(log, at + 1, LINKS + 8 * from, w);
+    for group in log.groups() {
+        mark_group(group, w);
     }
 }
 
@@ -99,13 +86,13 @@ fn reach_ways(w: &mut [u32], n: usize)
     close(w, n);
 }
 
-// The links and the ways of a log that passes with `n` episodes, in words that are zero.
-pub fn reachability(log: &[u32], n: usize, w: &mut [u32])
-    requires { PassedLog log.now × ((graph_of log.now).n ≡ n) × (n ≤ 256) × (next_at ≤ length w.old) × NoneMarked w.old }
-    ensures { ReachedLog log.now w.old w.new }
+// The links and the ways of a log, in words that are zero.
+pub fn reachability(log: Log, w: &mut [u32])
+    requires { (log.episodes ≤ 256) × (next_at ≤ length w.old) × NoneMarked w.old }
+    ensures { ReachedLog log.entry.words.now w.old w.new }
 {
     mark_links(log, w);
-    reach_ways(w, n);
+    reach_ways(w, log.episodes);
 }
 
 // The first episode that has a way to itself.

@@ -1,16 +1,8 @@
--- `reach::mark_group` meets its contract. The invariant: a to word stands at `at`, and those from `start` on before it are marked. The measure
--- is what is left of the log.
+-- `reach::mark_group` meets its contract. The invariant: the to words before the next one are marked.
 -- Assumes nothing.
-use mathlib.Core.Path.{◌≡◌}
-use mathlib.Core.Bool.{true}
-use Prim.Native.Nat.{◌-◌}
-use lib.ListN.{length}
-use Rattle.logs.specs.Log.{to_before_last}
+use lib.ListN.{take}
 use Rattle.reach.specs.Reach.{GroupMarked}
 use Rattle.reach.proofs.mark_group.Given as goal
 
-abbrev pub invariant-loop : goal.invariant-loop
-invariant-loop l = GroupMarked l.log l.start l.at l.initial.w l.w × (to_before_last l.log l.at ≡ true)
-
-abbrev pub decreases-loop : goal.decreases-loop
-decreases-loop l = length l.log - l.at
+abbrev pub invariant-loop-to : goal.invariant-loop-to
+invariant-loop-to l = GroupMarked l.group.from (take l.to-index l.group.to_words.now) l.initial.w l.w

@@ -1,37 +1,38 @@
-use mathlib.Core.Path.{ap}
-use Prim.Native.Nat.{ℕ, ◌+◌, ◌*◌}
+use mathlib.Core.Path.{subst, ap, ◌∙◌}
 use native.Mathlib.Omega.{arith}
-use Rattle.logs.proofs.Walk.{first_here, to_follows, from_passed}
-use Rattle.bits.specs.Work.{links_at}
+use Rattle.logs.specs.declared.passed.Log.{Log}
+use Rattle.logs.specs.declared.passed.Groups.{Groups}
+use Rattle.logs.proofs.Passing.{from_below, to_below}
+use Rattle.reach.specs.Reach.{LinksMarked}
 use Rattle.reach.proofs.Marks.{marking_start, marking_on, marking_end}
 use Rattle.reach.proofs.mark_links.Goals as goal
 
-pub overflow_sub-last : goal.overflow_sub-last
-overflow_sub-last c = let first = first_here c.args.log.now c.requires.0 in omega (arith, first.within)
+pub loop-group-init : goal.loop-group-init
+loop-group-init c =
+    let same = c.into_iter-group-iterator.ensures.into_iter_gives in
+    let first = c.groups-group-items.ensures in (
+      tt,
+      tt,
+      ap (λ (s : Groups). s.log) same ∙ first.0,
+      marking_start c.into_iter-group-iterator.result c.args.w.now (ap (λ (s : Groups). s.at) same ∙ first.1) c.requires.2,
+    )
 
-pub loop-at-init : goal.loop-at-init
-loop-at-init c = marking_start c.args.log.now c.args.w.now c.requires.0 c.requires.2
-
-pub mark_group-at-requires : goal.mark_group-at-requires
-mark_group-at-requires c =
-    let at = c.loop-at in
-    let (same_heard, near, low) = from_passed c.args.log.now c.requires.0 at.at at.invariant.here (omega arith) in
-    let same = at.invariant.outside.same_length in (
-      c.requires.0,
-      omega arith,
-      to_follows c.args.log.now c.requires.0 at.at at.invariant.here (omega arith),
-      rw near (ap (λ (x : ℕ). links_at + 8 * x) c.number_of-from.ensures),
-      rw near low,
+pub mark_group-requires : goal.mark_group-requires
+mark_group-requires c =
+    let s = c.loop-group.group-iterator in
+    let d = c.in-Some.ensures.steps in
+    let few : _ = ap (λ (l : Log). l.episodes) c.loop-group.invariant.2 in (
+      omega (arith, from_below s c.in-Some.group _ d, few),
+      λ j h. omega (arith, to_below s c.in-Some.group _ d j h, few),
       omega arith,
     )
 
-pub loop-at-preserved : goal.loop-at-preserved
-loop-at-preserved c =
-    let at = c.loop-at in
-    let group = c.mark_group-at.ensures in
-    marking_on c.requires.0 at.invariant (omega arith) group.0 group.1
+pub loop-group-preserved : goal.loop-group-preserved
+loop-group-preserved c =
+    let d = c.in-Some.ensures.steps in
+    (tt, tt, d.same ∙ c.loop-group.invariant.2, marking_on c.loop-group.invariant.3 d c.mark_group.ensures)
 
 pub returns : goal.returns
 returns c =
-    let at = c.loop-at in
-    marking_end c.args.log.now c.args.w.now at.w at.at c.requires.0 at.invariant (omega arith)
+    let at = c.loop-group in
+    subst (λ (l : Log). LinksMarked l.words.now c.args.w.now at.w) at.invariant.2 (marking_end at.group-iterator at.invariant.3 c.in-None.ensures.steps.0)
