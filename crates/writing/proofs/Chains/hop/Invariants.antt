@@ -1,4 +1,4 @@
--- `writing::hop` meets its contract. The invariant: no link to one before `from` leads to `b`. The measure is what is left of a row.
+-- `writing::Chains::hop` meets its contract. The invariant: no link to one before `from` leads to `b`. The measure is what is left of a row.
 -- Assumes nothing.
 use Prim.Native.Nat.{◌-◌}
 use Rattle.writing.proofs.Hops.{Hopping}

@@ -1,4 +1,4 @@
--- `writing::start_of` meets its contract. The invariant: the chain leads from `x` to `v`. The measure is how many have a way to `x`.
+-- `writing::Chains::start_of` meets its contract. The invariant: the chain leads from `x` to `v`. The measure is how many have a way to `x`.
 -- Assumes nothing.
 use Rattle.writing.proofs.Starts.{ways_to, Starting}
 use Rattle.writing.proofs.Chains.start_of.Given as goal

@@ -1,4 +1,4 @@
--- `writing::write_apart` meets its contract. The invariant: the members below `v` stand behind the first word.
+-- `writing::Chains::write_apart` meets its contract. The invariant: the members below `v` stand behind the first word.
 -- Assumes nothing.
 use Rattle.searching.specs.Items.{member_test}
 use Rattle.searching.specs.State.{tables}

@@ -1,5 +1,5 @@
--- `writing::write_path` meets its contract. The invariant, `Stepping`: what is written are the steps behind `c` of a path to `at`, and `at` has a
--- way to `b`. The measure is what is left of n.
+-- `writing::Chains::write_path` meets its contract. The invariant, `Stepping`: what is written are the steps behind `c` of a path to `at`, and
+-- `at` has a way to `b`. The measure is what is left of the episodes.
 -- Assumes nothing.
 use mathlib.Core.Path.{◌≡◌}
 use Prim.Native.Nat.{◌+◌, ◌-◌, ◌*◌}

@@ -1,5 +1,5 @@
--- `writing::write_thread` meets its contract. The invariant, `Filling`: what is written is a thread that ends at `at`, and it holds the chain up to
--- `at`. The measure is what is left of n.
+-- `writing::Chains::write_thread` meets its contract. The invariant, `Filling`: what is written is a thread that ends at `at`, and it holds the
+-- chain up to `at`. The measure is what is left of the episodes.
 -- Assumes nothing.
 use Prim.Native.Nat.{◌+◌, ◌-◌}
 use Rattle.writing.proofs.Filling.{Filling}

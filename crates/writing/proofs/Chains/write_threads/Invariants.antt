@@ -1,4 +1,4 @@
--- `writing::write_threads` meets its contract. The invariant, `Bundling`: a thread is written for each member below `v`.
+-- `writing::Chains::write_threads` meets its contract. The invariant, `Bundling`: a thread is written for each member below `v`.
 -- Assumes nothing.
 use Rattle.writing.proofs.Bundling.{Bundling}
 use Rattle.writing.proofs.Chains.write_threads.Given as goal
