@@ -89,14 +89,11 @@ fn write_group(row: &[u32], a: usize, out: &mut [u32]) -> usize
         out.old out.new result }
 {
     let mut links = 0;
-    let mut b = 0;
-    while b < row.len() {
-        let mark = row[b];
-        if mark != 0 {
+    for (b, mark) in row.iter().enumerate() {
+        if *mark != 0 {
             links += 1;
-            out[links] = 0x3000_0000 + (mark - 1) * 0x1_0000 + b as u32;
+            out[links] = 0x3000_0000 + (*mark - 1) * 0x1_0000 + b as u32;
         }
-        b += 1;
     }
     if links != 0 {
         out[0] = 0x2000_0000 + a as u32;
@@ -141,12 +138,10 @@ fn write_groups(log: &[u32], n: usize, out: &mut [u32], w: &mut [u32]) -> Writte
 {
     let mut words = 1;
     let mut links = 0;
-    let mut a = 0;
-    while a < n {
+    for a in 0..n {
         let more = copy_row(log, n, a, &mut out[words..], w);
         words += group_words(more);
         links += more;
-        a += 1;
     }
     Written { words, links }
 }

@@ -11,5 +11,3 @@ use Rattle.copying.proofs.write_group.Given as goal
 abbrev pub invariant-loop-b : goal.invariant-loop-b
 invariant-loop-b l = Listing (marked_at l.row) (λ c. to_word c (pause_at l.row c)) l.initial.out l.out (length l.row) l.links l.b
 
-abbrev pub decreases-loop-b : goal.decreases-loop-b
-decreases-loop-b l = length l.row - l.b

@@ -16,5 +16,3 @@ invariant-loop-a l =
     (length l.w ≡ length l.initial.w) × (l.a % 64 ≢ 0 → BlockMarks (l.a / 64) (content_of l.log) l.w)
     × Copying (least_pause (content_of l.log)) (graph_of l.log) l.initial.out l.out l.words l.links l.a
 
-abbrev pub decreases-loop-a : goal.decreases-loop-a
-decreases-loop-a l = l.n - l.a
