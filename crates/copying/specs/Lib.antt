@@ -2,3 +2,4 @@
 pub mod FairCopy
 pub mod Earlier
 pub mod Copying
+pub mod Calls

@@ -8,7 +8,9 @@ ghost use Rattle.logs.specs.Content.{least_pause};
 ghost use Rattle.logs.specs.Log.{to_before_last, content_of, graph_of, PassedLog};
 ghost use Rattle.logs.specs.Groups.{nearest_from};
 ghost use Rattle.writing.specs.Layout.{BeginsWith};
-ghost use Rattle.copying.specs.FairCopy.{linked_to, group, fair_words};
+ghost use Rattle.copying.specs.FairCopy.{linked_to, group, group_links, copy_words, fair_words};
+ghost use Rattle.copying.specs.Calls.{WritesGroups};
+ghost use Rattle.paths.specs.Graph.{Graph};
 ghost use Rattle.copying.specs.Copying.{block_words, row_at, BlockMarks, Lowered, GroupTaken, marked, pause_at, group_length, GroupWritten, GroupsWritten};
 
 // Lowers the mark at `at` to the pause plus one, where there is none yet or a higher one.
@@ -130,16 +132,17 @@ pub struct Written {
     pub links: usize,
 }
 
-// Writes the groups of all episodes behind the first word.
-fn write_groups(log: &[u32], n: usize, out: &mut [u32], w: &mut [u32]) -> Written
-    requires { PassedLog log.now × ((graph_of log.now).n ≡ n) × (length w.old ≡ block_words)
-        × (length (fair_words (content_of log.now)) ≤ length out.old) }
-    ensures { GroupsWritten (least_pause (content_of log.now)) (graph_of log.now) out.old out.new result.words result.links }
+// Writes the groups of all episodes behind the first word, each by a call of `write_row`.
+fn write_groups<F: FnMut(usize, &mut [u32]) -> usize>(n: usize, out: &mut [u32], mut write_row: F) -> Written
+    requires { (pause : ℕ → ℕ → ℕ) × (g : Graph) × WritesGroups F.pre F.step pause g write_row × (g.n ≡ n) × Small n
+        × Small (length g.links) × (length (copy_words pause g) ≤ length out.old) }
+    ensures { (pause : ℕ → ℕ → ℕ) (g : Graph) → WritesGroups F.pre F.step pause g write_row → g.n ≡ n → length (copy_words pause g) ≤ length out.old
+        → GroupsWritten pause g out.old out.new result.words result.links }
 {
     let mut words = 1;
     let mut links = 0;
     for a in 0..n {
-        let more = copy_row(log, n, a, &mut out[words..], w);
+        let more = write_row(a, &mut out[words..]);
         words += group_words(more);
         links += more;
     }
@@ -147,12 +150,24 @@ fn write_groups(log: &[u32], n: usize, out: &mut [u32], w: &mut [u32]) -> Writte
 }
 
 // Writes the head before the groups and the end behind them.
-pub fn write_ends(n: usize, words: usize, links: usize, out: &mut [u32])
+fn write_ends(n: usize, words: usize, links: usize, out: &mut [u32])
     requires { Small n × Small links × (words < length out.old) }
     ensures { out.new ≡ set (set out.old 0 (word 1 n)) words (word 15 links) }
 {
     out[0] = 0x1000_0000 + n as u32;
     out[words] = 0xF000_0000 + links as u32;
+}
+
+// Writes a copy with `n` episodes, each group by a call of `write_row`, and gives its count of words.
+pub fn write_by_rows<F: FnMut(usize, &mut [u32]) -> usize>(n: usize, out: &mut [u32], write_row: F) -> usize
+    requires { (pause : ℕ → ℕ → ℕ) × (g : Graph) × WritesGroups F.pre F.step pause g write_row × (g.n ≡ n) × Small n
+        × Small (length g.links) × (length (copy_words pause g) ≤ length out.old) }
+    ensures { (pause : ℕ → ℕ → ℕ) (g : Graph) → WritesGroups F.pre F.step pause g write_row → g.n ≡ n → length (copy_words pause g) ≤ length out.old
+        → (result ≡ length (copy_words pause g)) × BeginsWith (copy_words pause g) out.old out.new }
+{
+    let groups = write_groups(n, out, write_row);
+    write_ends(n, groups.words, groups.links, out);
+    groups.words + 1
 }
 
 // Writes the fair copy of a log that passes with `n` episodes, and gives its count of words.
@@ -162,9 +177,5 @@ pub fn write_copy(log: &[u32], n: usize, out: &mut [u32], w: &mut [u32]) -> usiz
     ensures { (result ≡ length (fair_words (content_of log.now)))
         × BeginsWith (fair_words (content_of log.now)) out.old out.new }
 {
-    let groups = write_groups(log, n, out, w);
-    let words = groups.words;
-    let links = groups.links;
-    write_ends(n, words, links, out);
-    words + 1
+    write_by_rows(n, out, |a, rest| copy_row(log, n, a, rest, w))
 }

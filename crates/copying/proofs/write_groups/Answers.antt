@@ -1,46 +1,53 @@
-use mathlib.Core.Path.{refl, ◌∙◌}
+use mathlib.Core.Path.{◌≡◌, refl, ◌∙◌}
+use Prim.Native.Nat.{ℕ}
 use native.Mathlib.Omega.{arith}
-use Rattle.logs.specs.Content.{least_pause}
-use Rattle.logs.specs.Log.{content_of, graph_of}
-use Rattle.copying.proofs.Rows.{passed_few, next_block}
-use Rattle.copying.proofs.Copies.{copying_none, copying_at, copying_room, copying_on, episodes_few, links_few, few_links, group_length_few}
+use native.Mathlib.Numerals.{add-one}
+use Rattle.paths.specs.Graph.{Graph}
+use Rattle.copying.proofs.GroupLinks.{length_group_links}
+use Rattle.copying.proofs.Copies.{copying_none, copying_at, copying_length, copying_room, copying_on, copying_all, few_links, group_length_few}
 use Rattle.copying.proofs.write_groups.Goals as goal
 
 pub loop-a-init : goal.loop-a-init
-loop-a-init c =
-    (refl, λ e. absurd (e refl), copying_none (least_pause (content_of c.args.log.now)) (graph_of c.args.log.now) c.args.out.now c.requires.3)
+loop-a-init g c = λ pause h writes same fits. (refl, copying_none pause h c.args.out.now fits)
 
-pub copy_row-more-requires : goal.copy_row-more-requires
-copy_row-more-requires c = (
-  c.requires.0,
-  c.requires.1,
-  omega (arith, passed_few c.args.log.now c.requires.0, c.requires.1),
-  c.loop-a.invariant.0 ∙ c.requires.2,
-  c.loop-a.invariant.1,
-  omega arith,
-  copying_room c.loop-a.invariant.2 c.requires.3 _ c.requires.1 (omega arith),
-)
+pub write_row-more-requires : goal.write_row-more-requires
+write_row-more-requires g c =
+    let (pause, h, writes, same, few, small, fits) = c.requires in
+    let here = c.loop-a.invariant pause h writes same fits in
+    writes.may c.loop-a.a c.loop-a.write_row _ here.0 (omega arith) (copying_room here.1 fits _ refl (omega arith))
 
 pub group_words-words-requires : goal.group_words-words-requires
-group_words-words-requires c =
-    few_links (graph_of c.args.log.now).links c.args.n c.loop-a.a (omega (arith, episodes_few c.args.log.now, c.requires.1)) c.copy_row-more.ensures.1
+group_words-words-requires g c =
+    let (pause, h, writes, same, few, small, fits) = c.requires in
+    let here = c.loop-a.invariant pause h writes same fits in
+    let more = c.write_row-more in
+    let written = writes.writes c.loop-a.a more.result c.loop-a.write_row more.new.self _ _ here.0 (omega arith) (copying_room here.1 fits _ refl (omega arith)) more.ensures in
+    few_links h.links h.n c.loop-a.a (omega arith) written
 
 pub overflow_add-words : goal.overflow_add-words
-overflow_add-words c =
-    let low = few_links (graph_of c.args.log.now).links c.args.n c.loop-a.a (omega (arith, episodes_few c.args.log.now, c.requires.1)) c.copy_row-more.ensures.1 in
-    let within = copying_at c.loop-a.invariant.2 c.requires.3 in
-    let group = group_length_few c.copy_row-more.result in
-    omega (arith, within, c.group_words-words.ensures)
+overflow_add-words g c =
+    let (pause, h, writes, same, few, small, fits) = c.requires in
+    let here = c.loop-a.invariant pause h writes same fits in
+    let more = c.write_row-more in
+    let written = writes.writes c.loop-a.a more.result c.loop-a.write_row more.new.self _ _ here.0 (omega arith) (copying_room here.1 fits _ refl (omega arith)) more.ensures in
+    let low = few_links h.links h.n c.loop-a.a (omega arith) written in
+    omega (arith, copying_at here.1 fits, copying_length here.1 fits, group_length_few more.result, c.group_words-words.ensures)
 
 pub overflow_add-links : goal.overflow_add-links
-overflow_add-links c =
-    let low = few_links (graph_of c.args.log.now).links c.args.n c.loop-a.a (omega (arith, episodes_few c.args.log.now, c.requires.1)) c.copy_row-more.ensures.1 in
-    omega (arith, c.loop-a.invariant.2.count, links_few c.args.log.now c.requires.0 c.loop-a.a)
+overflow_add-links g c =
+    let (pause, h, writes, same, few, small, fits) = c.requires in
+    let here = c.loop-a.invariant pause h writes same fits in
+    let more = c.write_row-more in
+    let written = writes.writes c.loop-a.a more.result c.loop-a.write_row more.new.self _ _ here.0 (omega arith) (copying_room here.1 fits _ refl (omega arith)) more.ensures in
+    let low = few_links h.links h.n c.loop-a.a (omega arith) written in
+    omega (arith, here.1.count, length_group_links h c.loop-a.a)
 
 pub loop-a-preserved : goal.loop-a-preserved
-loop-a-preserved c =
-    let row = c.copy_row-more in (
-      omega arith,
-      next_block c.loop-a.a (content_of c.args.log.now) row.new.w row.ensures.0,
-      copying_on c.loop-a.invariant.2 c.requires.3 _ c.requires.1 (omega arith) row.ensures.1 refl c.group_words-words.ensures,
-    )
+loop-a-preserved g c =
+    λ pause h writes same fits.
+    let here = c.loop-a.invariant pause h writes same fits in
+    let more = c.write_row-more in
+    let room = copying_room here.1 fits _ refl (omega arith) in
+    let written = writes.writes c.loop-a.a more.result c.loop-a.write_row more.new.self _ _ here.0 (omega arith) room more.ensures in
+    (rw add-one (c.loop-a.write_row, _, _, more.result, here.0, room, more.ensures),
+    copying_on here.1 fits _ refl (omega arith) written refl c.group_words-words.ensures)
