@@ -23,9 +23,8 @@ use Rattle.copying.proofs.GroupLinks.{links_of, length_group_links}
 pub episodes_few : (l : List ℕ) → (graph_of l).n < 2 ^ 28
 episodes_few l = number_lt (get_or l 0 0)
 
-pub links_few : (l : List ℕ) → PassedLog l → (k : ℕ) → length (group_links (graph_of l) k) < 2 ^ 28
-links_few l (m, n, t, e, few) k =
-    omega (arith, words_small m l n t e, graph_count m l n t e, length_group_links (graph_of l) k)
+pub links_small : (l : List ℕ) → PassedLog l → length (graph_of l).links < 2 ^ 28
+links_small l (m, n, t, e, few) = omega (arith, words_small m l n t e, graph_count m l n t e)
 
 -- one episode of few has few links
 pub few_links : (ls : List (ℕ × ℕ)) (n a : ℕ) {pause : ℕ → ℕ} {o o' : List ℕ} {r : ℕ} → n < 2 ^ 28 → GroupWritten a pause (linked_to a ls n) o o' r → r < 2 ^ 28

@@ -8,3 +8,4 @@ pub mod Rows
 pub mod Groups
 pub mod Copies
 pub mod Worked
+pub mod Calls

@@ -1,23 +1,23 @@
--- What a call writes a group by, and the groups of a graph written so, call by call.
+-- The groups of a graph written by calls, one for each episode.
 use Rattle.std.specs.Prelude.{◌≡◌, List, ℕ, zero, suc, ◌<◌, length}
 use Rattle.std.specs.Borrow.{MutBor}
 use Rattle.paths.specs.Graph.{Graph}
 use Rattle.copying.specs.FairCopy.{linked_to, group}
 use Rattle.copying.specs.Copying.{GroupWritten}
 
+-- `o` has room for the group of `a`, and for a word more
+abbrev pub RoomFor : (ℕ → ℕ → ℕ) → Graph → ℕ → List ℕ → Type 0
+RoomFor pause g a o = length (group a (pause a) (linked_to a g.links g.n)) < length o
+
 module _ {F : Type 0} (pre : F → ℕ → MutBor (List ℕ) → Type 0) (step : F → ℕ → MutBor (List ℕ) → ℕ → MutBor (List ℕ) → F → Type 0)
     (pause : ℕ → ℕ → ℕ) (g : Graph) where
-  -- there is room for the group of `a`, and a word more
-  abbrev pub RoomFor : ℕ → List ℕ → Type 0
-  RoomFor a o = length (group a (pause a) (linked_to a g.links g.n)) < length o
-
   -- calls for the episodes below `a`, rising, each with room for its group, lead from `f` to `f'`
   abbrev pub CalledBelow : F → ℕ → F → Type 0
   CalledBelow f zero f' = f ≡ f'
-  CalledBelow f (suc a) f' = (e : F) × (o o' : MutBor (List ℕ)) × (r : ℕ) × CalledBelow f a e × RoomFor a o.now × step e a o r o' f'
+  CalledBelow f (suc a) f' = (e : F) × (o o' : MutBor (List ℕ)) × (r : ℕ) × CalledBelow f a e × RoomFor pause g a o.now × step e a o r o' f'
 
   -- called for each episode in turn, `f` writes its group
   pub record WritesGroups (f : F) : Type 0 where
-    pub may : (a : ℕ) (e : F) (o : MutBor (List ℕ)) → CalledBelow f a e → a < g.n → RoomFor a o.now → pre e a o
-    pub writes : (a r : ℕ) (e e' : F) (o o' : MutBor (List ℕ)) → CalledBelow f a e → a < g.n → RoomFor a o.now → step e a o r o' e'
+    pub may : (a : ℕ) (e : F) (o : MutBor (List ℕ)) → CalledBelow f a e → a < g.n → RoomFor pause g a o.now → pre e a o
+    pub writes : (a r : ℕ) (e e' : F) (o o' : MutBor (List ℕ)) → CalledBelow f a e → a < g.n → RoomFor pause g a o.now → step e a o r o' e'
         → GroupWritten a (pause a) (linked_to a g.links g.n) o.now o'.now r

@@ -1,0 +1,94 @@
+-- Calls that write the groups of a graph, episode by episode.
+use mathlib.Core.Path.{◌≡◌, refl, sym, subst, ◌∙◌}
+use mathlib.Core.Logic.{◌≢◌}
+use mathlib.Core.List.{List}
+use Prim.Native.Nat.{ℕ, zero, suc, ◌+◌, ◌/◌, ◌%◌, ◌≤◌, ◌<◌}
+use native.Mathlib.Omega.{arith}
+use native.Mathlib.Numerals.{add-one}
+use lib.ListN.{length}
+use Rattle.std.proofs.Common.{Bor, MutBor}
+use Rattle.paths.specs.Graph.{Graph}
+use Rattle.logs.specs.Content.{least_pause}
+use Rattle.logs.specs.Log.{content_of, graph_of, PassedLog}
+use Rattle.copying.specs.FairCopy.{linked_to}
+use Rattle.copying.specs.Copying.{block_words, BlockMarks, GroupWritten}
+use Rattle.copying.specs.Calls.{RoomFor, CalledBelow, WritesGroups}
+use Rattle.copying.proofs.Rows.{passed_few, next_block}
+
+-- calls write the groups if what they need before the group of an episode, they leave for the next
+module _ {F : Type 0} (pre : F → ℕ → MutBor (List ℕ) → Type 0) (step : F → ℕ → MutBor (List ℕ) → ℕ → MutBor (List ℕ) → F → Type 0)
+    (pause : ℕ → ℕ → ℕ) (g : Graph) (Ready : ℕ → F → Type 0)
+    (may : (a : ℕ) (f : F) (o : MutBor (List ℕ)) → a < g.n → Ready a f → RoomFor pause g a o.now → pre f a o)
+    (writes : (a r : ℕ) (f f' : F) (o o' : MutBor (List ℕ)) → a < g.n → Ready a f → RoomFor pause g a o.now → step f a o r o' f'
+      → Ready (a + 1) f' × GroupWritten a (pause a) (linked_to a g.links g.n) o.now o'.now r) where
+  ready : (a : ℕ) (f f' : F) → Ready 0 f → a ≤ g.n → CalledBelow pre step pause g f a f' → Ready a f'
+  ready zero f f' first h e = subst (Ready 0) e first
+  ready (suc a) f f' first h (e, o, o', r, before, room, s) =
+      rw (← add-one) (writes a r e f' o o' (omega arith) (ready a f e first (omega arith) before) room s).0
+
+  pub writes_groups : (f : F) → Ready 0 f → WritesGroups pre step pause g f
+  writes_groups f first =
+      record {
+        may = λ a e o before h room. may a e o h (ready a f e first (omega arith) before) room;
+        writes = λ a r e e' o o' before h room s. (writes a r e e' o o' h (ready a f e first (omega arith) before) room s).1;
+      }
+
+-- what the calls for a fair copy hold: the log, its count of episodes, and the marks of a block
+abbrev pub Held : Type 0
+Held = Bor (List ℕ) × Bor ℕ × MutBor (List ℕ)
+
+-- what they need for the group of `a`
+pub record Asked (f : Held) (a : ℕ) (o : List ℕ) : Type 0 where
+  pub passed : PassedLog f.0.now
+  pub count : (graph_of f.0.now).n ≡ f.1.now
+  pub few : f.1.now ≤ 256
+  pub long : length f.2.now ≡ block_words
+  pub marks : a % 64 ≢ 0 → BlockMarks (a / 64) (content_of f.0.now) f.2.now
+  pub below : a < f.1.now
+  pub room : RoomFor (least_pause (content_of f.0.now)) (graph_of f.0.now) a o
+
+-- and what they leave
+pub record Left (f : Held) (a : ℕ) (o : List ℕ) (r : ℕ) (o' : List ℕ) (f' : Held) : Type 0 where
+  pub log : f'.0.now ≡ f.0.now
+  pub count : f'.1.now ≡ f.1.now
+  pub size : length f'.2.now ≡ length f.2.now
+  pub marks : BlockMarks (a / 64) (content_of f.0.now) f'.2.now
+  pub group : GroupWritten a (least_pause (content_of f.0.now) a) (linked_to a (graph_of f.0.now).links f.1.now) o o' r
+
+-- what stands before the group of `a`
+record Ready (l : List ℕ) (n a : ℕ) (f : Held) : Type 0 where
+  log : f.0.now ≡ l
+  count : f.1.now ≡ n
+  long : length f.2.now ≡ block_words
+  marks : a % 64 ≢ 0 → BlockMarks (a / 64) (content_of l) f.2.now
+
+-- then they write the groups of the log's graph
+pub fair_groups : (pre : Held → ℕ → MutBor (List ℕ) → Type 0) (step : Held → ℕ → MutBor (List ℕ) → ℕ → MutBor (List ℕ) → Held → Type 0)
+    → ((a : ℕ) (f : Held) (o : MutBor (List ℕ)) → Asked f a o.now → pre f a o)
+    → ((a r : ℕ) (f f' : Held) (o o' : MutBor (List ℕ)) → step f a o r o' f' → Left f a o.now r o'.now f')
+    → (f : Held) → PassedLog f.0.now → (graph_of f.0.now).n ≡ f.1.now → length f.2.now ≡ block_words
+    → WritesGroups pre step (least_pause (content_of f.0.now)) (graph_of f.0.now) f
+fair_groups pre step may leave f passed count long =
+    writes_groups pre step (least_pause (content_of f.0.now)) (graph_of f.0.now) (Ready f.0.now f.1.now)
+    (λ a e o h s room.
+    may a e o
+    (record {
+      passed = rw s.log passed;
+      count = rw (s.log, s.count) count;
+      few = omega (arith, s.count, passed_few f.0.now passed);
+      long = s.long;
+      marks = rw s.log s.marks;
+      below = omega (arith, s.count);
+      room = rw s.log room;
+    }))
+    (λ a r e e' o o' h s room d.
+    let left = leave a r e e' o o' d in (
+      record {
+        log = left.log ∙ s.log;
+        count = left.count ∙ s.count;
+        long = left.size ∙ s.long;
+        marks = next_block a (content_of f.0.now) e'.2.now (rw s.log at left.marks);
+      },
+      rw (s.log, s.count, sym count) at left.group,
+    ))
+    f (record { log = refl; count = refl; long = long; marks = λ ne. absurd (ne refl) })
