@@ -13,6 +13,8 @@ ghost use Rattle.copying.specs.Calls.{WritesGroups};
 ghost use Rattle.paths.specs.Graph.{Graph};
 ghost use Rattle.copying.specs.Copying.{block_words, row_at, BlockMarks, Lowered, GroupTaken, marked, pause_at, group_length, GroupWritten, GroupsWritten};
 
+use logs::{Kind, ToWord};
+
 // Lowers the mark at `at` to the pause plus one, where there is none yet or a higher one.
 fn lower(w: &mut [u32], at: usize, pause: u32)
     requires { (at < length w.old) × (pause < 2 ^ 12) }
@@ -34,7 +36,7 @@ fn mark_group(log: &[u32], start: usize, row: usize, w: &mut [u32]) -> usize
 {
     let mut at = start;
     loop {
-        let to = logs::to_word_of(log[at]);
+        let to = ToWord::from(log[at]);
         lower(w, row + to.episode, to.pause);
         at += 1;
         if !logs::to_before_last(log, at) {
@@ -94,11 +96,11 @@ fn write_group(row: &[u32], a: usize, out: &mut [u32]) -> usize
     for (b, mark) in row.iter().enumerate() {
         if *mark != 0 {
             links += 1;
-            out[links] = 0x3000_0000 + (*mark - 1) * 0x1_0000 + b as u32;
+            out[links] = ToWord { episode: b, pause: *mark - 1 }.word();
         }
     }
     if links != 0 {
-        out[0] = 0x2000_0000 + a as u32;
+        out[0] = Kind::From.word(a);
     }
     links
 }
@@ -126,10 +128,10 @@ pub fn group_words(links: usize) -> usize
 }
 
 // How many words have been written, and the links among them.
-#[derive(Clone, Copy)]
-pub struct Written {
-    pub words: usize,
-    pub links: usize,
+#[derive(Clone, Copy, Debug, PartialEq, Eq)]
+struct Written {
+    words: usize,
+    links: usize,
 }
 
 // Writes the groups of all episodes behind the first word, each by a call of `write_row`.
@@ -154,8 +156,8 @@ fn write_ends(n: usize, words: usize, links: usize, out: &mut [u32])
     requires { Small n × Small links × (words < length out.old) }
     ensures { out.new ≡ set (set out.old 0 (word 1 n)) words (word 15 links) }
 {
-    out[0] = 0x1000_0000 + n as u32;
-    out[words] = 0xF000_0000 + links as u32;
+    out[0] = Kind::Head.word(n);
+    out[words] = Kind::End.word(links);
 }
 
 // Writes a copy with `n` episodes, each group by a call of `write_row`, and gives its count of words.

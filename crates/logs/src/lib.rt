@@ -1,8 +1,8 @@
 // The reading of a log: questions 1 to 10.
 #![tactic(auto)]
 
-ghost use Rattle.std.specs.Prelude.{◌≡◌, false, ◌+◌, ◌<◌, ◌≤◌, ltb, eqb, length, get_or, drop};
-ghost use Rattle.logs.specs.Words.{kind, number, word, Small, to_episode, to_pause, kind_code};
+ghost use Rattle.std.specs.Prelude.{◌≡◌, false, ◌+◌, ◌^◌, ◌<◌, ◌≤◌, ltb, eqb, length, get_or, drop};
+ghost use Rattle.logs.specs.Words.{kind, number, word, Small, to_episode, to_pause, to_word, kind_code};
 ghost use Rattle.logs.specs.Answer.{given, question, reason_number, result_answer, numbered, to_figures, word_answer, read_answer};
 ghost use Rattle.logs.specs.Log.{service, to_before_last, head_word, group_word, end_word, questions};
 ghost use Rattle.logs.specs.Places.{log_word_at, Stopped};
@@ -80,6 +80,16 @@ impl From<u32> for ToWord {
             episode: (number % 0x1_0000) as usize,
             pause: number / 0x1_0000,
         }
+    }
+}
+
+impl ToWord {
+    // The to word of this episode and this pause.
+    pub fn word(self) -> u32
+        requires { (self.episode < 2 ^ 16) × (self.pause < 2 ^ 12) }
+        ensures { result ≡ to_word self.episode self.pause }
+    {
+        Kind::To.word(self.pause as usize * 0x1_0000 + self.episode)
     }
 }
 

@@ -1,8 +1,6 @@
-use Prim.Native.Nat.{◌+◌, ◌<◌}
 use native.Mathlib.Omega.{arith}
 use lib.ListN.{length}
 use Rattle.logs.specs.Words.{to_word}
-use Rattle.logs.proofs.Words.{to_sum}
 use Rattle.writing.proofs.Listing.{listing_none, listing_more, listing_same}
 use Rattle.copying.specs.Copying.{marked_at, pause_at}
 use Rattle.copying.proofs.Groups.{is_marked, not_marked, marked_room, group_links_lem, group_no_links}
@@ -14,16 +12,11 @@ loop-b-init c =
     let row = c.args.row.now in
     listing_none (marked_at row) (λ b. to_word b (pause_at row b)) c.args.out.now (length row) (omega arith)
 
--- the group has room for its to word
-room : (c : goal.Then-mark-ne0) → c.loop-b.links + 1 < length c.loop-b.out
-room c =
-    let a = c.args in
-    let at = c.loop-b in
-    let more = marked_room a.row.now a.a at.b (omega arith) (λ e. omega arith) in
-    omega arith
-
 pub bounds-out-links : goal.bounds-out-links
-bounds-out-links c = room c
+bounds-out-links c =
+    let a = c.args in
+    let more = marked_room a.row.now a.a c.loop-b.b (omega arith) (λ e. omega arith) in
+    omega arith
 
 pub loop-b-preserved : goal.loop-b-preserved
 loop-b-preserved c =
@@ -34,10 +27,9 @@ loop-b-preserved c =
       | then-mark-ne0 p ↦
           let marked = is_marked row at.b (λ e. omega (arith, p.if-mark-ne0.true)) in
           let more = marked_room row a.a at.b (omega arith) (λ e. omega (arith, p.if-mark-ne0.true)) in
-          rw (p.links-is, p.out-is)
-          (rw (← to_sum at.b (pause_at row at.b)) at
+          rw (p.links-is, p.out-is, p.word.ensures)
           (listing_more (marked_at row) (λ b. to_word b (pause_at row b)) a.out.now at.out (length row) at.links at.b at.invariant (omega arith)
-          (omega (arith, at.invariant.size)) marked))
+          (omega (arith, at.invariant.size)) marked)
       | else-mark-ne0 p ↦
           rw (p.links-is, p.out-is)
           (listing_same (marked_at row) (λ b. to_word b (pause_at row b)) a.out.now at.out (length row) at.links at.b at.invariant (omega arith)
@@ -49,7 +41,8 @@ returns-then-links-ne0 c =
     let a = c.args in
     let at = c.loop-b in
     let row = a.row.now in
-    group_links_lem (marked_at row) (pause_at row) a.out.now at.out (length row) at.links at.b at.invariant (omega arith) a.a (λ e. omega arith)
+    rw c.word-then-links-ne0.ensures
+    (group_links_lem (marked_at row) (pause_at row) a.out.now at.out (length row) at.links at.b at.invariant (omega arith) a.a (λ e. omega arith))
 
 pub returns-else-links-ne0 : goal.returns-else-links-ne0
 returns-else-links-ne0 c =
