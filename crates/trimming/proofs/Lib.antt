@@ -3,3 +3,4 @@ pub mod Kept
 pub mod TrimmedCopies
 pub mod Joining
 pub mod Rows
+pub mod Calls

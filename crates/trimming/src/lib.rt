@@ -8,12 +8,12 @@ ghost use Rattle.bits.specs.Work.{links_at, ways_at, next_at};
 ghost use Rattle.writing.specs.Layout.{BeginsWith};
 ghost use Rattle.writing.proofs.Listing.{Listing};
 ghost use Rattle.copying.specs.FairCopy.{linked_to, group};
-ghost use Rattle.copying.specs.Copying.{GroupWritten, GroupsWritten};
+ghost use Rattle.copying.specs.Copying.{GroupWritten};
 ghost use Rattle.trimming.specs.TrimmedCopy.{trimmed, no_pause, trimmed_words};
 ghost use Rattle.trimming.specs.Trimming.{Held, WaysAdded, HoldsImplied, kept_to, to_unpaused, TellsDigits};
 
 use bits::{LINKS, WAYS};
-use copying::Written;
+use logs::Kind;
 
 // Joins into `implied` the ways of the episodes that are the bits of `links`, counted from `first` on.
 fn join_ways(w: &[u32], links: u32, first: usize, implied: &mut [u32])
@@ -35,11 +35,9 @@ fn note_implied(w: &[u32], row: usize, implied: &mut [u32])
     requires { (next_at ≤ length w.now) × (row + 8 ≤ ways_at) × (implied.old ≡ replicate 8 0) }
     ensures { (a : ℕ) → row ≡ links_at + 8 * a → HoldsImplied w.now a implied.new }
 {
-    let mut i = 0;
-    while i < 8 {
+    for i in 0..8 {
         let old = implied[i];
         join_ways(w, (w[row + i] | old) ^ old, 32 * i, implied);
-        i += 1;
     }
 }
 
@@ -55,7 +53,7 @@ fn write_word(kept: u32, first: usize, links: usize, out: &mut [u32]) -> usize
     while rest != 0 {
         let bit = u32::trailing_zeros(rest);
         count += 1;
-        out[count] = 0x3000_0000 + (first as u32 + bit);
+        out[count] = Kind::To.word(first + bit as usize);
         rest = rest ^ (1 << bit);
     }
     count
@@ -67,14 +65,12 @@ fn write_row(w: &[u32], a: usize, row: usize, implied: &[u32], out: &mut [u32]) 
     ensures { GroupWritten a (no_pause a) (kept_to w.now a implied.now) out.old out.new result }
 {
     let mut links = 0;
-    let mut i = 0;
-    while i < 8 {
+    for i in 0..8 {
         let old = implied[i];
         links = write_word((w[row + i] | old) ^ old, 32 * i, links, out);
-        i += 1;
     }
     if links != 0 {
-        out[0] = 0x2000_0000 + a as u32;
+        out[0] = Kind::From.word(a);
     }
     links
 }
@@ -91,33 +87,11 @@ fn trim_row(w: &[u32], n: usize, a: usize, out: &mut [u32]) -> usize
     write_row(w, a, row, &implied, out)
 }
 
-// Writes the groups of all episodes behind the first word.
-fn write_rows(w: &[u32], n: usize, out: &mut [u32]) -> Written
-    requires { (g : Graph) × Held g n w.now × (length (trimmed_words g) ≤ length out.old) }
-    ensures { (g : Graph) → Held g n w.now → length (trimmed_words g) ≤ length out.old
-        → GroupsWritten no_pause (trimmed g) out.old out.new result.words result.links }
-{
-    let mut words = 1;
-    let mut links = 0;
-    let mut a = 0;
-    while a < n {
-        let more = trim_row(w, n, a, &mut out[words..]);
-        words += copying::group_words(more);
-        links += more;
-        a += 1;
-    }
-    Written { words, links }
-}
-
 // Writes the trimmed copy of a graph with `n` episodes, from its links and ways, and gives its count of words.
 pub fn write_trimmed(w: &[u32], n: usize, out: &mut [u32]) -> usize
     requires { (g : Graph) × Held g n w.now × (length (trimmed_words g) ≤ length out.old) }
     ensures { (g : Graph) → Held g n w.now → length (trimmed_words g) ≤ length out.old
         → (result ≡ length (trimmed_words g)) × BeginsWith (trimmed_words g) out.old out.new }
 {
-    let groups = write_rows(w, n, out);
-    let words = groups.words;
-    let links = groups.links;
-    copying::write_ends(n, words, links, out);
-    words + 1
+    copying::write_by_rows(n, out, |a, rest| trim_row(w, n, a, rest))
 }

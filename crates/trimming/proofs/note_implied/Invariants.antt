@@ -7,5 +7,3 @@ use Rattle.trimming.proofs.note_implied.Given as goal
 abbrev pub invariant-loop-i : goal.invariant-loop-i
 invariant-loop-i l = Noting l.w l.implied l.row l.i
 
-abbrev pub decreases-loop-i : goal.decreases-loop-i
-decreases-loop-i l = 8 - l.i

@@ -39,8 +39,9 @@ returns-then-links-ne0 c =
     let a = c.args in
     let all : 32 * c.loop-i.i ≡ 256 = omega (arith, c.loop-i.invariant.0) in
     let whole = subst (λ (v : ℕ). Listing (kept_at a.w.now a.a a.implied.now) to_unpaused a.out.now c.loop-i.out 256 c.loop-i.links v) all c.loop-i.invariant.1 in
-    group_links_lem (kept_at a.w.now a.a a.implied.now) (no_pause a.a) a.out.now c.loop-i.out 256 c.loop-i.links 256 whole
-    (omega arith) a.a (λ e. omega arith)
+    rw c.word.ensures
+    (group_links_lem (kept_at a.w.now a.a a.implied.now) (no_pause a.a) a.out.now c.loop-i.out 256 c.loop-i.links 256 whole
+    (omega arith) a.a (λ e. omega arith))
 
 pub returns-else-links-ne0 : goal.returns-else-links-ne0
 returns-else-links-ne0 c =

@@ -9,5 +9,3 @@ use Rattle.trimming.proofs.write_row.Given as goal
 abbrev pub invariant-loop-i : goal.invariant-loop-i
 invariant-loop-i l = (l.i ≤ 8) × Listing (kept_at l.w l.a l.implied) to_unpaused l.initial.out l.out 256 l.links (32 * l.i)
 
-abbrev pub decreases-loop-i : goal.decreases-loop-i
-decreases-loop-i l = 8 - l.i

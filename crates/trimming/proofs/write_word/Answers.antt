@@ -19,7 +19,8 @@ loop-rest-preserved c = (
   count_trailing_zeros 32 c.loop-rest.rest + 1,
   rest_on c.loop-rest.invariant.1 (omega arith),
   λ test o tells s fits.
-      bit_written c.args.first tells c.requires.1 c.loop-rest.invariant.1 (c.loop-rest.invariant.2 test o tells s fits) (omega arith) fits,
+      rw c.word.ensures
+          (bit_written c.args.first tells c.requires.1 c.loop-rest.invariant.1 (c.loop-rest.invariant.2 test o tells s fits) (omega arith) fits),
 )
 
 pub returns : goal.returns
