@@ -104,7 +104,6 @@ record Row (g : Graph) (v : List ℕ) (a b : ℕ) : Type 0 where
 -- after the first `i` words of its links, which start at word `from`
 pub record Noting (w v : List ℕ) (from i : ℕ) : Type 0 where
   pub size : length v ≡ 8
-  pub at_most : i ≤ 8
   row : (a : ℕ) → from ≡ links_at + 8 * a → (g : Graph) (n : ℕ) → Held g n w → Row g v a (32 * i)
 
 pub noting_start : (w v : List ℕ) (from : ℕ) → v ≡ replicate 8 0 → Noting w v from 0
@@ -113,7 +112,6 @@ noting_start w v from e =
     let z = bits_zero v 0 c (rw e (get_or-replicate 8 (0 + c / 32) 0 0 (omega arith))) in omega arith in
     record {
       size = ap length e;
-      at_most = omega arith;
       row = λ a p g n held.
           record {
             sound = λ c hc o. absurd (none c hc o);
@@ -186,7 +184,7 @@ module _ {w v v' : List ℕ} {from i : ℕ} (within : from + 8 ≤ ways_at) (hi 
               (rw place (ways.complete x d lx hd y))
 
   pub noting_on : Noting w v' from (i + 1)
-  noting_on = record { size = q.same_length ∙ s.size; at_most = omega arith; row = row_on }
+  noting_on = record { size = q.same_length ∙ s.size; row = row_on }
 
 -- all links are had
 pub noting_end : {w v : List ℕ} {from i : ℕ} → 8 ≤ i → Noting w v from i → (a : ℕ) → from ≡ links_at + 8 * a → HoldsImplied w a v
