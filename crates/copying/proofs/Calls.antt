@@ -20,7 +20,7 @@ module _ {F : Type 0} (pre : F → ℕ → MutBor (List ℕ) → Type 0) (step :
     (pause : ℕ → ℕ → ℕ) (g : Graph) (Ready : ℕ → F → Type 0)
     (may : (a : ℕ) (f : F) (o : MutBor (List ℕ)) → a < g.n → Ready a f → RoomFor pause g a o.now → pre f a o)
     (writes : (a r : ℕ) (f f' : F) (o o' : MutBor (List ℕ)) → a < g.n → Ready a f → RoomFor pause g a o.now → step f a o r o' f'
-      → Ready (a + 1) f' × GroupWritten a (pause a) (linked_to a g.links g.n) o.now o'.now r) where
+    → Ready (a + 1) f' × GroupWritten a (pause a) (linked_to a g.links g.n) o.now o'.now r) where
   ready : (a : ℕ) (f f' : F) → Ready 0 f → a ≤ g.n → CalledBelow pre step pause g f a f' → Ready a f'
   ready zero f f' first h e = subst (Ready 0) e first
   ready (suc a) f f' first h (e, o, o', r, before, room, s) =

@@ -17,7 +17,7 @@ use Rattle.writing.proofs.Buffers.{begins_itself, begins_first, begins_more, beg
 use Rattle.copying.specs.FairCopy.{linked_to, group, groups, group_links, copy_words}
 use Rattle.copying.specs.Copying.{group_length, GroupWritten, GroupsWritten}
 use Rattle.copying.proofs.Linked.{length_group, groups_more, length_copy, group_room}
-use Rattle.copying.proofs.GroupLinks.{links_of, length_group_links}
+use Rattle.copying.proofs.GroupLinks.{links_of}
 
 -- the numbers of a log that passes fit its words
 pub episodes_few : (l : List ℕ) → (graph_of l).n < 2 ^ 28

@@ -96,7 +96,11 @@ fn write_group(row: &[u32], a: usize, out: &mut [u32]) -> usize
     for (b, mark) in row.iter().enumerate() {
         if *mark != 0 {
             links += 1;
-            out[links] = ToWord { episode: b, pause: *mark - 1 }.word();
+            let to = ToWord {
+                episode: b,
+                pause: *mark - 1,
+            };
+            out[links] = to.word();
         }
     }
     if links != 0 {
@@ -135,7 +139,11 @@ struct Written {
 }
 
 // Writes the groups of all episodes behind the first word, each by a call of `write_row`.
-fn write_groups<F: FnMut(usize, &mut [u32]) -> usize>(n: usize, out: &mut [u32], mut write_row: F) -> Written
+fn write_groups<F: FnMut(usize, &mut [u32]) -> usize>(
+    n: usize,
+    out: &mut [u32],
+    mut write_row: F,
+) -> Written
     requires { (pause : ℕ → ℕ → ℕ) × (g : Graph) × WritesGroups F.pre F.step pause g write_row × (g.n ≡ n) × Small n
         × Small (length g.links) × (length (copy_words pause g) ≤ length out.old) }
     ensures { (pause : ℕ → ℕ → ℕ) (g : Graph) → WritesGroups F.pre F.step pause g write_row → g.n ≡ n → length (copy_words pause g) ≤ length out.old
@@ -161,7 +169,11 @@ fn write_ends(n: usize, words: usize, links: usize, out: &mut [u32])
 }
 
 // Writes a copy with `n` episodes, each group by a call of `write_row`, and gives its count of words.
-pub fn write_by_rows<F: FnMut(usize, &mut [u32]) -> usize>(n: usize, out: &mut [u32], write_row: F) -> usize
+pub fn write_by_rows<F: FnMut(usize, &mut [u32]) -> usize>(
+    n: usize,
+    out: &mut [u32],
+    write_row: F,
+) -> usize
     requires { (pause : ℕ → ℕ → ℕ) × (g : Graph) × WritesGroups F.pre F.step pause g write_row × (g.n ≡ n) × Small n
         × Small (length g.links) × (length (copy_words pause g) ≤ length out.old) }
     ensures { (pause : ℕ → ℕ → ℕ) (g : Graph) → WritesGroups F.pre F.step pause g write_row → g.n ≡ n → length (copy_words pause g) ≤ length out.old

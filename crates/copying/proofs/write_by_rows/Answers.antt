@@ -1,6 +1,5 @@
 -- `copying::write_by_rows` meets its contract: the head and the end go before and behind the groups.
 -- Assumes nothing.
-use mathlib.Core.Path.{refl}
 use native.Mathlib.Omega.{arith}
 use Rattle.copying.proofs.GroupLinks.{length_group_links}
 use Rattle.copying.proofs.Copies.{end_room, copy_whole}

@@ -1,7 +1,5 @@
--- `copying::write_group` meets its contract. The invariant: the marked numbers below `b` stand as to words behind the first word. The
--- measure is what is left of the row.
+-- `copying::write_group` meets its contract. The invariant: the marked numbers below `b` stand as to words behind the first word.
 -- Assumes nothing.
-use Prim.Native.Nat.{◌-◌}
 use lib.ListN.{length}
 use Rattle.logs.specs.Words.{to_word}
 use Rattle.writing.proofs.Listing.{Listing}
@@ -10,4 +8,3 @@ use Rattle.copying.proofs.write_group.Given as goal
 
 abbrev pub invariant-loop-b : goal.invariant-loop-b
 invariant-loop-b l = Listing (marked_at l.row) (λ c. to_word c (pause_at l.row c)) l.initial.out l.out (length l.row) l.links l.b
-

@@ -1,10 +1,8 @@
-use mathlib.Core.Path.{◌≡◌, refl, ◌∙◌}
-use Prim.Native.Nat.{ℕ}
+use mathlib.Core.Path.{refl}
 use native.Mathlib.Omega.{arith}
 use native.Mathlib.Numerals.{add-one}
-use Rattle.paths.specs.Graph.{Graph}
 use Rattle.copying.proofs.GroupLinks.{length_group_links}
-use Rattle.copying.proofs.Copies.{copying_none, copying_at, copying_length, copying_room, copying_on, copying_all, few_links, group_length_few}
+use Rattle.copying.proofs.Copies.{copying_none, copying_at, copying_length, copying_room, copying_on, few_links, group_length_few}
 use Rattle.copying.proofs.write_groups.Goals as goal
 
 pub loop-a-init : goal.loop-a-init
@@ -48,6 +46,7 @@ loop-a-preserved g c =
     let here = c.loop-a.invariant pause h writes same fits in
     let more = c.write_row-more in
     let room = copying_room here.1 fits _ refl (omega arith) in
-    let written = writes.writes c.loop-a.a more.result c.loop-a.write_row more.new.self _ _ here.0 (omega arith) room more.ensures in
-    (rw add-one (c.loop-a.write_row, _, _, more.result, here.0, room, more.ensures),
-    copying_on here.1 fits _ refl (omega arith) written refl c.group_words-words.ensures)
+    let written = writes.writes c.loop-a.a more.result c.loop-a.write_row more.new.self _ _ here.0 (omega arith) room more.ensures in (
+      rw add-one (c.loop-a.write_row, _, _, more.result, here.0, room, more.ensures),
+      copying_on here.1 fits _ refl (omega arith) written refl c.group_words-words.ensures,
+    )

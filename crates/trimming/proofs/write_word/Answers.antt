@@ -20,7 +20,7 @@ loop-rest-preserved c = (
   rest_on c.loop-rest.invariant.1 (omega arith),
   λ test o tells s fits.
       rw c.word.ensures
-          (bit_written c.args.first tells c.requires.1 c.loop-rest.invariant.1 (c.loop-rest.invariant.2 test o tells s fits) (omega arith) fits),
+      (bit_written c.args.first tells c.requires.1 c.loop-rest.invariant.1 (c.loop-rest.invariant.2 test o tells s fits) (omega arith) fits),
 )
 
 pub returns : goal.returns
