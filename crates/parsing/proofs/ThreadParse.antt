@@ -1,5 +1,6 @@
 -- One thread and several threads that stand behind each other: what their words are, and where they end.
 use mathlib.Core.Path.{◌≡◌, refl, sym, ap, ap₂, subst, ◌∙◌}
+use mathlib.Core.Bool.{Bool, true, false}
 use mathlib.Core.Logic.{⊎_elim}
 use mathlib.Core.List.Memᴰ
 use mathlib.Core.List.Memᴰ.{append_cases}
@@ -14,18 +15,20 @@ use mathlib.Core.List.{
   append_assoc,
   Memᴰ as Mem,
 }
-use Prim.Native.Nat.{ℕ, zero, suc, ◌+◌, ◌≤◌, ◌<◌}
+use Prim.Native.Nat.{ℕ, zero, suc, ◌+◌, ◌-◌, ◌≤◌, ◌<◌}
 use native.Mathlib.Omega.{arith}
 use lib.ListN.{length, get_or, take, drop, length-append, length-drop, take-append-drop}
 use lib.Seq.{split_at, drop-cons, drop_at, drop-drop, get_or-drop, length-take-le}
+use Rattle.std.specs.Bool.{then_some}
+use Rattle.std.specs.Option.{unwrap_or}
 use Rattle.order.specs.Order.{All}
 use Rattle.order.proofs.Lists.{all_nil}
 use Rattle.logs.specs.Words.{kind, number, word, Small}
 use Rattle.writing.specs.Layout.{thread_words, threads_words}
 use Rattle.writing.proofs.Layouts.{threads_words_snoc, length_thread}
 use Rattle.parsing.specs.Whole.{ThreadFits}
-use Rattle.parsing.specs.Parsing.{OfKind, ThreadEnd, ThreadsEnd}
-use Rattle.parsing.proofs.Runs.{run_words, run_kinds}
+use Rattle.parsing.specs.Parsing.{OfKind, KindTest, ThreadEnd, ThreadsEnd}
+use Rattle.parsing.proofs.Runs.{run_words, run_kinds, part_test}
 
 -- what is behind the words that stand at `at`
 pub drop_behind : (ws : List ℕ) (at : ℕ) (front rest : List ℕ) → drop at ws ≡ front ++ rest → drop (at + length front) ws ≡ rest
@@ -97,6 +100,25 @@ one_thread ws at c h =
       found = λ s. here_thread ws at c h;
       behind = λ t rest fits e. omega (arith, h.count, (thread_here ws at t rest fits e).count, length_thread t);
     }
+
+-- where all but the steps' kinds are those of a thread of `c` steps, the test of these kinds decides
+pub tested_thread : (ws steps : List ℕ) (at c : ℕ) (r : Bool) → 1 ≤ c → at + 1 + c ≤ length ws → kind (get_or ws at 0) ≡ 6
+    → number (get_or ws at 0) ≡ c → steps ≡ take (at + 1 + c - (at + 1)) (drop (at + 1) ws) → KindTest steps 0 (length steps) 7 r
+    → ThreadEnd ws at (unwrap_or (then_some r (at + 1 + c)) 0)
+tested_thread ws steps at c true some fits six long is test =
+    one_thread ws at c (record {
+      some = some;
+      fits = fits;
+      kind_six = six;
+      count = long;
+      steps = (part_test ws steps (at + 1) (at + 1 + c) 7 true is (omega arith) fits test).all refl;
+    })
+tested_thread ws steps at c false some fits six long is test =
+    no_thread ws at
+    (λ n here.
+    let count = here.count in
+    (part_test ws steps (at + 1) (at + 1 + c) 7 false is (omega arith) fits test).not_all refl
+    (λ j le lt. here.steps j (omega arith) (omega arith)))
 
 -- The threads before `i`, thread `i` and those behind it.
 threads_split : (ts : List (List ℕ)) (i : ℕ) → i < length ts

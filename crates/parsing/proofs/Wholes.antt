@@ -1,18 +1,20 @@
 -- A whole report and its words, both ways: what stands where in one, and that words in which all that stands are one.
 use mathlib.Core.Path.{◌≡◌, refl, sym, ap, ap₂, subst, ◌∙◌}
-use mathlib.Core.Bool.{true, false, true≢false}
+use mathlib.Core.Bool.{Bool, false, true≢false}
 use mathlib.Core.List.{List, [], ◌∷◌, ◌++◌, map, append_assoc}
-use Prim.Native.Nat.{ℕ, suc, ◌+◌, ◌≤◌, ◌<◌}
+use Prim.Native.Nat.{ℕ, suc, ◌+◌, ◌-◌, ◌≤◌, ◌<◌}
 use native.Mathlib.Omega.{arith}
+use borrow.Author.Tests.{eqb-true, eq-eqb}
+use lib.Dec.{eqb}
 use lib.ListN.{length, get_or, take, drop, length-append, length-map, drop_of_length-le}
-use lib.Seq.{drop-cons, take_at}
+use lib.Seq.{drop-cons, take_at, take-take}
 use Rattle.order.specs.Order.{All}
 use Rattle.logs.specs.Words.{kind, number, word, Small}
 use Rattle.writing.specs.Layout.{thread_words, threads_words, ended, report_words, SmallThread, apart_of, threads_of}
 use Rattle.writing.proofs.Layouts.{apart_of_report, threads_of_report}
 use Rattle.parsing.specs.Whole.{IsReport, Whole, thread_place}
-use Rattle.parsing.specs.Parsing.{OfKind, ThreadsEnd, WholeTest, ThreadAt}
-use Rattle.parsing.proofs.Runs.{run_words, run_kinds}
+use Rattle.parsing.specs.Parsing.{OfKind, KindTest, ThreadsEnd, WholeTest, ThreadAt, Room}
+use Rattle.parsing.proofs.Runs.{run_words, run_kinds, part_test}
 use Rattle.parsing.proofs.ThreadParse.{
   drop_behind,
   get_d_first,
@@ -166,17 +168,27 @@ whole_found ws k end four width long fives ends long-end fifteen count =
       },
     )
 
--- the two answers
-pub is_whole : (ws : List ℕ) → Whole ws → WholeTest ws true
-is_whole ws found = record { whole = λ e. found; not_whole = λ e. absurd (true≢false e) }
+-- the test of the apart set's words, which are the first `k` between the first word and the last
+pub fives_test : (ws fives : List ℕ) (k : ℕ) (r : Bool) → k + 2 ≤ length ws → fives ≡ take (k - 0) (take (length ws - 1 - 1) (drop 1 ws))
+    → KindTest fives 0 (length fives) 5 r → KindTest ws 1 (k + 1) 5 r
+fives_test ws fives k r fits is test =
+    let same : k - 0 ≡ k + 1 - 1 = omega arith in
+    part_test ws fives 1 (k + 1) 5 r
+    (is ∙ take-take (k - 0) (length ws - 1 - 1) (drop 1 ws) (omega arith) ∙ ap (λ (n : ℕ). take n (drop 1 ws)) same)
+    (omega arith) (omega arith) test
 
+-- where the count at the end decides
+pub count_test : (ws : List ℕ) (count end : ℕ) → (count ≡ end → Whole ws) → (Whole ws → count ≡ end) → WholeTest ws (eqb count end)
+count_test ws count end whole counted =
+    record {
+      whole = λ e. whole (eqb-true count end e);
+      not_whole = λ e found. true≢false (sym (eq-eqb count end (counted found)) ∙ e);
+    }
+
+-- the answer no
 pub not_whole : (ws : List ℕ) → ((apart : List ℕ) (threads : List (List ℕ)) → IsReport ws apart threads → ⊥) → WholeTest ws false
 not_whole ws none =
     record { whole = λ e. absurd (true≢false (sym e)); not_whole = λ e found. none found.0 found.1 found.2 }
-
--- the count that stands at `r` is not 0, and as many words stand behind it
-abbrev pub Room : List ℕ → ℕ → Type 0
-Room ws r = (1 ≤ number (get_or ws r 0)) × (r + 1 + number (get_or ws r 0) ≤ length ws)
 
 -- Thread `i` of a whole report, where it stands.
 module _ (ws apart : List ℕ) (threads : List (List ℕ)) (report : IsReport ws apart threads) (i r : ℕ) (lt : i < length threads)

@@ -1,7 +1,7 @@
 -- What the steps of the parse find.
 use Rattle.std.specs.Prelude.{◌≡◌, Bool, true, false, List, [], ◌++◌, ℕ, ◌+◌, ◌≤◌, ◌<◌, length, get_or, drop}
 use Rattle.order.specs.Order.{All}
-use Rattle.logs.specs.Words.{kind}
+use Rattle.logs.specs.Words.{kind, number}
 use Rattle.writing.specs.Layout.{thread_words, threads_words}
 use Rattle.parsing.specs.Whole.{ThreadFits, IsReport, Whole, thread_place}
 
@@ -37,3 +37,7 @@ abbrev pub ThreadAt : List ℕ → ℕ → ℕ → Type 0
 ThreadAt ws i r =
     (apart : List ℕ) (threads : List (List ℕ)) → IsReport ws apart threads → i < length threads
     → (r ≡ thread_place apart threads i) × (rest : List ℕ) × (drop r ws ≡ thread_words (get_or threads i []) ++ rest)
+
+-- the count that stands at `r` is not 0, and as many words stand behind it
+abbrev pub Room : List ℕ → ℕ → Type 0
+Room ws r = (1 ≤ number (get_or ws r 0)) × (r + 1 + number (get_or ws r 0) ≤ length ws)

@@ -1,77 +1,55 @@
 // A report's words taken apart: whether they are a whole report, and where its threads stand.
 #![tactic(auto)]
 
-ghost use Rattle.std.specs.Prelude.{◌≡◌, ◌<◌, ◌≤◌, length, get_or};
-ghost use Rattle.logs.specs.Words.{number};
+ghost use Rattle.std.specs.Prelude.{◌≡◌, ◌<◌, ◌≤◌, length, get_or, unwrap_or, IfSome};
+ghost use Rattle.logs.specs.Words.{number, kind_code};
 ghost use Rattle.parsing.specs.Whole.{HasThread};
-ghost use Rattle.parsing.specs.Parsing.{KindTest, ThreadEnd, ThreadsEnd, WholeTest, ThreadAt};
+ghost use Rattle.parsing.specs.Parsing.{KindTest, ThreadEnd, ThreadsEnd, WholeTest, ThreadAt, Room};
 
-// Whether all words from `from` on and before `end` are of kind `kind`.
-fn all_of_kind(report: &[u32], from: usize, end: usize, kind: u32) -> bool
-    requires { (from ≤ end) × (end ≤ length report.now) }
-    ensures { KindTest report.now from end kind result }
+use logs::Kind;
+
+// Whether all words are of kind `kind`.
+fn all_of_kind(words: &[u32], kind: Kind) -> bool
+    ensures { KindTest words.now 0 (length words.now) (kind_code kind) result }
 {
-    let mut j = from;
-    while j < end {
-        if logs::kind_of(report[j]) != kind {
-            return false;
-        }
-        j += 1;
-    }
-    true
+    words.iter().all(|w| kind.is_of(*w))
 }
 
-// The place behind the thread that stands at `at`, or 0 where none does.
-fn thread_end(report: &[u32], at: usize) -> usize
-    ensures { ThreadEnd report.now at result }
+// The place behind the thread that stands at `at`, if one does.
+fn thread_end(report: &[u32], at: usize) -> Option<usize>
+    ensures end { ThreadEnd report.now at (unwrap_or result 0) }
+    ensures behind { IfSome result (λ end. at < end) }
 {
-    if report.len() <= at {
-        return 0;
+    let head = *report.get(at)?;
+    if !Kind::Thread.is_of(head) {
+        return None;
     }
     let start = at + 1;
-    let head = report[at];
-    let count = logs::number_of(head);
-    if logs::kind_of(head) != 6 {
-        return 0;
+    let end = start + logs::number_of(head);
+    let steps = report.get(start..end)?;
+    if steps.is_empty() {
+        return None;
     }
-    if count == 0 {
-        return 0;
-    }
-    if report.len() - start < count {
-        return 0;
-    }
-    let end = start + count;
-    if !all_of_kind(report, start, end, 7) {
-        return 0;
-    }
-    end
+    all_of_kind(steps, Kind::Step).then_some(end)
 }
 
-// The place behind the `k` threads that stand from `at` on, or 0 where they do not.
-fn threads_end(report: &[u32], at: usize, k: usize) -> usize
+// The place behind the `k` threads that stand from `at` on, if they do.
+fn threads_end(report: &[u32], at: usize, k: usize) -> Option<usize>
     requires { (0 < at) × (at ≤ length report.now) }
-    ensures { ThreadsEnd report.now at k result }
+    ensures { ThreadsEnd report.now at k (unwrap_or result 0) }
 {
     let mut place = at;
-    let mut j = 0;
-    while j < k {
-        place = thread_end(report, place);
-        if place == 0 {
-            return 0;
-        }
-        j += 1;
+    for _ in 0..k {
+        place = thread_end(report, place)?;
     }
-    place
+    Some(place)
 }
 
 // The number of the first word, which is the width in a whole report, or 0 where there is no word.
 pub fn width(report: &[u32]) -> usize
     ensures { result ≡ number (get_or report.now 0 0) }
 {
-    if report.len() == 0 {
-        return 0;
-    }
-    logs::number_of(report[0])
+    report.first().map_or(0, |w| logs::number_of(*w))
 }
 
 // Whether the words are a whole report: kind 4 with the width, as many words of kind 5, as many threads, and kind F with the count of
@@ -79,39 +57,33 @@ pub fn width(report: &[u32]) -> usize
 pub fn is_whole(report: &[u32]) -> bool
     ensures { WholeTest report.now result }
 {
-    let len = report.len();
-    if len < 2 {
+    let [head, middle @ .., last] = report else {
+        return false;
+    };
+    if !Kind::Width.is_of(*head) {
         return false;
     }
-    if logs::kind_of(report[0]) != 4 {
+    let k = logs::number_of(*head);
+    let Some(apart) = middle.get(..k) else {
+        return false;
+    };
+    if !all_of_kind(apart, Kind::Apart) {
         return false;
     }
-    let k = width(report);
-    if len - 2 < k {
+    let Some(end) = threads_end(report, k + 1, k) else {
+        return false;
+    };
+    if end + 1 != report.len() {
         return false;
     }
-    let start = k + 1;
-    if !all_of_kind(report, 1, start, 5) {
-        return false;
-    }
-    let end = threads_end(report, start, k);
-    if end + 1 != len {
-        return false;
-    }
-    let last = report[end];
-    if logs::kind_of(last) != 15 {
-        return false;
-    }
-    if logs::number_of(last) != end {
-        return false;
-    }
-    true
+    Kind::End.is_of(*last) && logs::number_of(*last) == end
 }
 
 // The place of thread `i` in a whole report.
 pub fn thread_at(report: &[u32], i: usize) -> usize
     requires { HasThread report.now i }
-    ensures { ThreadAt report.now i result }
+    ensures there { ThreadAt report.now i result }
+    ensures room { Room report.now result }
 {
-    threads_end(report, width(report) + 1, i)
+    threads_end(report, width(report) + 1, i).unwrap()
 }

@@ -1,7 +1,9 @@
 -- `parsing::thread_at` meets its contract: behind the `i` threads before it stands thread `i`.
 -- Assumes nothing.
-use native.Mathlib.Omega.{arith}
-use Rattle.parsing.proofs.Wholes.{report_room, report_thread}
+use Rattle.std.proofs.Common.{rules, ℕ, ◌<◌, Option, None, Some, unwrap_or, arith}
+use Rattle.std.specs.Option.{IsSome}
+use Rattle.parsing.specs.Parsing.{ThreadAt}
+use Rattle.parsing.proofs.Wholes.{report_room, report_thread, thread_room}
 use Rattle.parsing.proofs.thread_at.Goals as goal
 
 pub threads_end-requires : goal.threads_end-requires
@@ -10,9 +12,26 @@ threads_end-requires c =
     let room = report_room c.args.report.now has.0 has.1 has.2 in
     (omega arith, omega arith)
 
-pub returns : goal.returns
-returns c =
+some_place : (o : Option ℕ) → 0 < unwrap_or o 0 → IsSome o
+some_place None h = absurd (omega arith)
+some_place (Some x) h = search rules
+
+pub unwrap-requires : goal.unwrap-requires
+unwrap-requires c =
+    let has = c.requires in
+    let there = report_thread c.args.report.now has.0 has.1 has.2 c.width.result c.args.i _ (omega arith) c.threads_end.ensures has.3 in
+    some_place c.threads_end.result (omega (arith, there.0))
+
+-- where thread `i` stands
+there : (c : goal.After-unwrap) → ThreadAt c.args.report.now c.args.i c.unwrap.result
+there c =
     λ apart threads report lt.
     let a = c.args in
-    report_thread a.report.now apart threads report c.width.result a.i c.threads_end.result (omega arith)
-    c.threads_end.ensures lt
+    report_thread a.report.now apart threads report c.width.result a.i c.unwrap.result (omega arith)
+    (rw c.unwrap.ensures at c.threads_end.ensures) lt
+
+pub returns : goal.returns
+returns c =
+    let has = c.requires in
+    let a = c.args in
+    record { there = there c; room = thread_room a.report.now has.0 has.1 has.2 a.i c.unwrap.result has.3 (there c) }

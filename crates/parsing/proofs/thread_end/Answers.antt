@@ -2,50 +2,36 @@
 -- stands there.
 -- Assumes nothing.
 use native.Mathlib.Omega.{arith}
-use Rattle.parsing.proofs.ThreadParse.{no_thread, one_thread}
+use Rattle.std.proofs.lemmas.Bool.Decides.{nat_tests}
+use Rattle.parsing.proofs.ThreadParse.{no_thread, tested_thread}
 use Rattle.parsing.proofs.thread_end.Goals as goal
 
-pub returns-then-report-at : goal.returns-then-report-at
-returns-then-report-at c =
+pub returns-in_err-head-clause-end : goal.returns-in_err-head-clause-end
+returns-in_err-head-clause-end c =
     let a = c.args in
-    no_thread a.report.now a.at (λ n here. omega (arith, here.fits))
+    rw c.from_residual.ensures (no_thread a.report.now a.at (λ n here. grind (arith, here.fits, c.in_err-head.ensures.lookup)))
 
-pub returns-then-kind_of-ne6 : goal.returns-then-kind_of-ne6
-returns-then-kind_of-ne6 c =
+pub returns-then-not-is_of-clause-end : goal.returns-then-not-is_of-clause-end
+returns-then-not-is_of-clause-end c =
     let a = c.args in
-    no_thread a.report.now a.at (λ n here. omega (arith, here.kind_six))
+    no_thread a.report.now a.at (λ n here. grind (arith, here.kind_six, nat_tests))
 
-pub returns-then-count-eq0 : goal.returns-then-count-eq0
-returns-then-count-eq0 c =
+pub returns-in_err-steps-clause-end : goal.returns-in_err-steps-clause-end
+returns-in_err-steps-clause-end c =
     let a = c.args in
-    no_thread a.report.now a.at (λ n here. omega (arith, here.count, here.some))
+    rw c.from_residual-in_err-steps.ensures
+    (no_thread a.report.now a.at (λ n here. grind (arith, here.count, here.fits, c.in_err-steps.ensures.lookup)))
 
-pub returns-then-report-start : goal.returns-then-report-start
-returns-then-report-start c =
+pub returns-then-is_empty-clause-end : goal.returns-then-is_empty-clause-end
+returns-then-is_empty-clause-end c =
     let a = c.args in
-    no_thread a.report.now a.at (λ n here. omega (arith, here.count, here.fits))
+    let part = c.in_ok-steps.ensures.lookup in
+    no_thread a.report.now a.at (λ n here. grind (arith, nat_tests, here.count, here.some, part.0.3))
 
-pub all_of_kind-requires : goal.all_of_kind-requires
-all_of_kind-requires c = (omega arith, omega arith)
-
-pub returns-then-not-all_of_kind : goal.returns-then-not-all_of_kind
-returns-then-not-all_of_kind c =
+pub returns-clause-end : goal.returns-clause-end
+returns-clause-end c =
     let a = c.args in
-    no_thread a.report.now a.at
-    (λ n here.
-    let count = here.count in
-    let test = c.all_of_kind in
-    test.ensures.not_all c.if-not-all_of_kind.true (λ j le lt. here.steps j (omega arith) (omega arith)))
-
-pub returns : goal.returns
-returns c =
-    let a = c.args in
-    let test = c.all_of_kind in
-    one_thread a.report.now a.at c.number_of-count.result
-    (record {
-      some = omega arith;
-      fits = omega arith;
-      kind_six = omega arith;
-      count = omega arith;
-      steps = λ j le lt. test.ensures.all c.if-not-all_of_kind.false j (omega arith) (omega arith);
-    })
+    let part = c.in_ok-steps.ensures.lookup in
+    rw c.then_some.ensures
+    (tested_thread a.report.now c.in_ok-steps.steps.now a.at c.number_of.result c.all_of_kind.result (grind (arith, nat_tests, part.0.3)) part.0.1
+    (grind (arith, nat_tests)) (grind arith) part.0.2 c.all_of_kind.ensures)
