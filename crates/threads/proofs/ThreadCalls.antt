@@ -8,7 +8,8 @@ use lib.ListN.{length, get_or, take, drop}
 use Rattle.logs.specs.Words.{number}
 use Rattle.parsing.specs.Whole.{IsReport, Whole, HasThread, HasNoThread, ThreadNumber, ThreadStretch}
 use Rattle.parsing.specs.Parsing.{ThreadAt}
-use Rattle.parsing.proofs.Wholes.{report_head, thread_room, thread_steps}
+use Rattle.parsing.specs.Parsing.{Room}
+use Rattle.parsing.proofs.Wholes.{report_head, thread_steps}
 
 module _ (ws : List ℕ) (i : ℕ) where
   -- a whole report's width is the number of its threads
@@ -21,15 +22,6 @@ module _ (ws : List ℕ) (i : ℕ) where
   has_not_below : HasNoThread ws i → number (get_or ws 0 0) ≤ i
   has_not_below (apart, threads, report, le) = omega (arith, count_of apart threads report)
 
-  pub no_report : (Whole ws → ⊥) → ThreadNumber ws i 16
-  no_report none =
-      record {
-        one_of = inr (inl refl);
-        given = (λ e. absurd (omega arith), λ has. absurd (none (has.0, has.1, has.2)));
-        no_report = (λ e. none, λ n. refl);
-        no_thread = (λ e. absurd (omega arith), λ has. absurd (none (has.0, has.1, has.2)));
-      }
-
   pub no_thread : Whole ws → number (get_or ws 0 0) ≤ i → ThreadNumber ws i 17
   no_thread whole le =
       record {
@@ -39,13 +31,16 @@ module _ (ws : List ℕ) (i : ℕ) where
         no_thread = (λ e. (whole.0, whole.1, whole.2, omega (arith, count_of whole.0 whole.1 whole.2)), λ has. refl);
       }
 
-  pub a_thread : Whole ws → i < number (get_or ws 0 0) → ThreadNumber ws i 0
-  a_thread whole lt =
+  pub has_thread : Whole ws → i < number (get_or ws 0 0) → HasThread ws i
+  has_thread (apart, threads, report) lt = (apart, threads, report, omega (arith, count_of apart threads report))
+
+  pub a_thread : HasThread ws i → ThreadNumber ws i 0
+  a_thread has =
       record {
         one_of = inl refl;
-        given = (λ e. (whole.0, whole.1, whole.2, omega (arith, count_of whole.0 whole.1 whole.2)), λ has. refl);
-        no_report = (λ e. absurd (omega arith), λ none. absurd (none whole));
-        no_thread = (λ e. absurd (omega arith), λ has. absurd (omega (arith, has_not_below has)));
+        given = (λ e. has, λ h. refl);
+        no_report = (λ e. absurd (omega arith), λ none. absurd (none (has.0, has.1, has.2)));
+        no_thread = (λ e. absurd (omega arith), λ none. absurd (omega (arith, has_below has, has_not_below none)));
       }
 
   -- the empty stretch, where there is no thread `i`
@@ -64,11 +59,11 @@ module _ (ws : List ℕ) (i : ℕ) where
       }
 
   -- the stretch of the thread that stands at `r`
-  pub its_stretch : HasThread ws i → (r start end : ℕ) → ThreadAt ws i r → start ≡ r + 1 → end ≡ start + number (get_or ws r 0)
+  pub its_stretch : HasThread ws i → (r start end : ℕ) → ThreadAt ws i r → Room ws r → start ≡ r + 1 → end ≡ start + number (get_or ws r 0)
       → ThreadStretch ws i start end
-  its_stretch has r start end there first last =
+  its_stretch has r start end there room first last =
       let long : end - start ≡ number (get_or ws r 0) = omega arith in
-      let inside : end ≤ length ws = omega (arith, (thread_room ws has.0 has.1 has.2 i r has.3 there).1) in
+      let inside : end ≤ length ws = omega (arith, room.1) in
       record {
         rises = omega arith;
         inside = inside;

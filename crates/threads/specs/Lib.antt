@@ -1,0 +1,2 @@
+-- What asking for a thread answers.
+pub mod Found
