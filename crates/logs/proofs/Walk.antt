@@ -8,7 +8,7 @@ use native.Mathlib.Decide.{ℕ_discrete}
 use native.Mathlib.Omega.{arith}
 use lib.ListN.{length, get_or}
 use Rattle.logs.specs.Words.{kind, number, to_episode}
-use Rattle.logs.specs.Log.{to_before_last, PassedLog, Passes}
+use Rattle.logs.specs.Log.{to_before_last, PassedLog, PassesWith}
 use Rattle.logs.specs.Groups.{heard_before, nearest_from, ToWords, Starts}
 use Rattle.logs.proofs.Asked.{to_there, there_to}
 use Rattle.logs.proofs.Laws.{from_word_below, to_word_below, pass_from, pass_to}
@@ -65,7 +65,7 @@ abbrev pub GroupHere : List ℕ → ℕ → Type 0
 GroupHere = Starts
 
 -- of a log that passes with `n` episodes and `t` to words
-module _ (l : List ℕ) (n t : ℕ) (e : Passes l n t) where
+module _ (l : List ℕ) (n t : ℕ) (e : PassesWith l n t) where
   -- a group starts behind the head
   pub starts_first : Starts l 1
   starts_first =

@@ -13,7 +13,7 @@ use Rattle.paths.specs.Graph.{EndsBelow}
 use Rattle.logs.specs.Words.{kind, number}
 use Rattle.logs.specs.Content.{joins}
 use Rattle.logs.specs.Answer.{given}
-use Rattle.logs.specs.Log.{figure, head_word, onwards, questions, heard_from, graph_of, PassedLog, Passes}
+use Rattle.logs.specs.Log.{figure, head_word, onwards, questions, heard_from, graph_of, PassedLog, PassesWith}
 use Rattle.logs.specs.declared.Ceilings.{Ceilings}
 use Rattle.logs.proofs.Words.{figure_from, figure_to}
 use Rattle.logs.proofs.Asked.{behind, to_there, there_to, head_passed}
@@ -153,7 +153,7 @@ links_below m (h ∷ w ∷ rest) n t e =
     (omega (arith, ap (λ (v : ℕ × ℕ). v.0) same), omega (arith, ap (λ (v : ℕ × ℕ). v.1) same)))
 
 -- what passes at some ceilings passes at its own figures
-pub passes_own : (m : Ceilings) (l : List ℕ) (n t : ℕ) → questions m l ≡ given (n, t) → Passes l n t
+pub passes_own : (m : Ceilings) (l : List ℕ) (n t : ℕ) → questions m l ≡ given (n, t) → PassesWith l n t
 passes_own m l n t e =
     let f = well_formed m l n t e in
     well_formed_passes (record { episodes = n; words = t }) l n t
@@ -173,5 +173,5 @@ passes_own m l n t e =
     })
 
 -- with 256 episodes at the most
-pub passes_passed : (l : List ℕ) (n t : ℕ) → n ≤ 256 → Passes l n t → PassedLog l
+pub passes_passed : (l : List ℕ) (n t : ℕ) → n ≤ 256 → PassesWith l n t → PassedLog l
 passes_passed l n t few e = (record { episodes = n; words = t }, n, t, e, few)

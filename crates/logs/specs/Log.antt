@@ -101,5 +101,5 @@ abbrev pub PassedLog : List ℕ → Type 0
 PassedLog l = (m : Ceilings) × (n : ℕ) × (t : ℕ) × (questions m l ≡ given (n, t)) × (n ≤ 256)
 
 -- the log passes questions 1 to 10 with `n` episodes and `t` to words, at these as ceilings
-abbrev pub Passes : List ℕ → ℕ → ℕ → Type 0
-Passes l n t = questions (record { episodes = n; words = t }) l ≡ given (n, t)
+abbrev pub PassesWith : List ℕ → ℕ → ℕ → Type 0
+PassesWith l n t = questions (record { episodes = n; words = t }) l ≡ given (n, t)

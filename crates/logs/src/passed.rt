@@ -2,7 +2,7 @@
 ghost use Rattle.std.specs.Prelude.{◌≡◌, ◌-◌, IfOk, length};
 ghost use Rattle.std.specs.Iterator.{at_most};
 ghost use Rattle.logs.specs.Answer.{result_answer};
-ghost use Rattle.logs.specs.Log.{questions, Passes};
+ghost use Rattle.logs.specs.Log.{questions, PassesWith};
 ghost use Rattle.logs.specs.Groups.{Starts};
 
 use crate::{Ceilings, Refusal, group_end, number_of, read_within};
@@ -13,7 +13,7 @@ pub struct Log<'a> {
     pub words: &'a [u32],
     pub episodes: usize,
     pub to_words: usize,
-    ghost passes: { Passes words.now episodes to_words },
+    ghost passes: { PassesWith words.now episodes to_words },
 }
 
 impl<'a> Log<'a> {

@@ -6,7 +6,7 @@ use native.Mathlib.Omega.{arith}
 use lib.ListN.{length, get_or, length-append, get_or-append}
 use lib.Seq.{get_or-append-add, get_or-append_right}
 use Rattle.paths.specs.Graph.{Graph, EndsBelow, Link}
-use Rattle.logs.specs.Log.{graph_of, Passes}
+use Rattle.logs.specs.Log.{graph_of, PassesWith}
 use Rattle.logs.proofs.Laws.{graph_episodes, links_below}
 use Rattle.bits.specs.Bits.{bit}
 use Rattle.bits.specs.Work.{links_at, ways_at, matrix_words, Matrix, next_at}
@@ -86,7 +86,7 @@ closed_reached w w' w'' n c q =
 pub no_ways : (l w w' : List ℕ) → NoneMarked w → LinksMarked l w w' → NoWays w'
 no_ways l w w' none p i lo hi = p.outside.behind i lo ∙ none i hi
 
-pub reached : {w w' w'' : List ℕ} (l : List ℕ) (n t : ℕ) → Passes l n t → LinksMarked l w w' → WaysReached w' w'' n → ReachedLog l w w''
+pub reached : {w w' w'' : List ℕ} (l : List ℕ) (n t : ℕ) → PassesWith l n t → LinksMarked l w w' → WaysReached w' w'' n → ReachedLog l w w''
 reached l n t e p q =
     record {
       outside = outside_then (outside_wider (omega arith) (omega arith) p.outside) (outside_wider (omega arith) (omega arith) q.outside);

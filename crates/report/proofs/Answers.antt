@@ -1,5 +1,5 @@
 -- From the links and ways in the work words to a loop or a report.
-use mathlib.Core.Path.{◌≡◌, refl, sym, ap, subst}
+use mathlib.Core.Path.{◌≡◌, sym, subst}
 use mathlib.Core.List.{List}
 use Prim.Native.Nat.{ℕ, ◌+◌, ◌*◌, ◌≤◌, ◌<◌}
 use native.Mathlib.Omega.{arith}
@@ -22,8 +22,8 @@ use Rattle.chains.proofs.Cycle.{loop_least}
 use Rattle.chains.proofs.Reports as reports
 use Rattle.writing.specs.Layout.{report_need}
 use Rattle.writing.specs.Writing.{Solved, ReportWritten, Looping, LoopWritten}
-use Rattle.report.specs.Report.{Reported, ShowsReport}
-use Rattle.report.specs.Solving.{Ready, LoopSought}
+use Rattle.report.specs.Report.{Reported, ShowsLoop, ShowsReport}
+use Rattle.report.specs.Solving.{Ready}
 
 -- what is proved of the chains, as a report
 reported_here : {g : Graph} {w : List ℕ} → Solved g g.n w → (ts : List (List ℕ)) → ThreadsOf g (tables w).next (members (tables w) g.n) ts
@@ -77,35 +77,15 @@ module _ {g : Graph} {n v : ℕ} {w : List ℕ} (ready : Ready g n w) (first : F
           shrunk = shrunk;
         }
 
-    -- a loop is found, and it has an episode
-    pub loop_sought : {o o' w'' : List ℕ} {r : ℕ} → LoopWritten w' o o' v r → LoopSought g o w o' w'' r
+    -- a loop is found
+    pub loop_sought : {o o' : List ℕ} {r : ℕ} → LoopWritten w' o o' v r → ShowsLoop g r o o'
     loop_sought d =
         let (l, starts) = d.of g n looping in
-        record {
-          none = λ e. absurd (omega (arith, d.size, ap length l.parts));
-          shown = λ ne. (
-            d.loop,
-            record { loop = l; smallest_first = rw starts (loop_least none_before l) },
-            sym d.size,
-            d.words,
-          );
-        }
+        (d.loop, record { loop = l; smallest_first = rw starts (loop_least none_before l) }, sym d.size, d.words)
 
   -- none is found, and there is none
-  pub none_sought : {o : List ℕ} → v ≡ n → LoopSought g o w o w 0
-  none_sought e =
-      record {
-        none = λ f. (
-          λ u way. none_before u (let h : u < g.n = way_first ready.ends way in omega (arith, ready.count)) way,
-          refl,
-          refl,
-        );
-        shown = λ ne. absurd (ne refl);
-      }
-
--- where there is none, the work words are as before
-pub still_ready : {g : Graph} {n r : ℕ} {o w o' w' : List ℕ} → LoopSought g o w o' w' r → r ≡ 0 → Ready g n w → Ready g n w'
-still_ready {g} {n} s e ready = subst (λ (x : List ℕ). Ready g n x) (sym (s.none e).2) ready
+  pub none_sought : v ≡ n → Acyclic g
+  none_sought e u way = none_before u (let h : u < g.n = way_first ready.ends way in omega (arith, ready.count)) way
 
 -- every loop fits the words of a report
 pub loop_room : {g : Graph} {n k : ℕ} {w : List ℕ} → Ready g n w → report_need n ≤ k → (c : List ℕ) → Loop g c → length c + 1 ≤ k

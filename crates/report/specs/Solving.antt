@@ -1,5 +1,5 @@
 -- What stands in the work words when the graph is in them, and what is answered from there.
-use Rattle.std.specs.Prelude.{◌≡◌, ◌≢◌, List, ℕ, ◌≤◌, ◌<◌, length, get_or}
+use Rattle.std.specs.Prelude.{◌≡◌, Option, Some, None, List, ℕ, ◌≤◌, ◌<◌, length, get_or}
 use Rattle.paths.specs.Graph.{Graph, EndsBelow, Link, Way, Acyclic}
 use Rattle.bits.specs.Work.{links_at, ways_at, next_at, used_words, Matrix}
 use Rattle.report.specs.Report.{ShowsLoop, ShowsReport}
@@ -16,10 +16,10 @@ pub record Ready (g : Graph) (n : ℕ) (w : List ℕ) : Type 0 where
   pub ways : Matrix ways_at w (Way g)
   pub empty : (i : ℕ) → next_at ≤ i → i < used_words → get_or w i 0 ≡ 0
 
--- `r` is the length of a loop of `g` that the output shows, or 0 where there is none: then nothing has changed
-pub record LoopSought (g : Graph) (o w o' w' : List ℕ) (r : ℕ) : Type 0 where
-  pub none : r ≡ 0 → Acyclic g × (o' ≡ o) × (w' ≡ w)
-  pub shown : r ≢ 0 → ShowsLoop g r o o'
+-- the length of a loop of `g` that the output shows, where there is one; where there is none, nothing has changed
+abbrev pub LoopSought : Graph → List ℕ → List ℕ → List ℕ → List ℕ → Option ℕ → Type 0
+LoopSought g o w o' w' None = Acyclic g × (o' ≡ o) × (w' ≡ w)
+LoopSought g o w o' w' (Some k) = ShowsLoop g k o o'
 
 -- a report on `g`, or a loop of it
 abbrev pub Answered : Graph → List ℕ → List ℕ → Outcome → Type 0

@@ -1,23 +1,37 @@
 // The report on a log.
 #![tactic(auto)]
 
-ghost use Rattle.std.specs.Prelude.{◌≡◌, List, ℕ, ◌+◌, ◌<◌, ◌≤◌, length, replicate};
+ghost use Rattle.std.specs.Prelude.{◌≡◌, List, ℕ, ◌+◌, ◌<◌, ◌≤◌, IfOk, length, replicate};
 ghost use Rattle.paths.specs.Graph.{Graph, Loop};
-ghost use Rattle.logs.specs.Log.{service, graph_of, PassedLog};
+ghost use Rattle.logs.specs.Answer.{given, result_answer, reason_number};
+ghost use Rattle.logs.specs.Log.{service, graph_of};
 ghost use Rattle.writing.specs.Layout.{report_need};
-ghost use Rattle.report.specs.Report.{work_words, Left};
+ghost use Rattle.report.specs.Report.{work_words, lent, asked, Left};
 ghost use Rattle.report.specs.Solving.{Ready, LoopSought, Answered};
 
 use bits::{USED, WAYS};
-use logs::{Ceilings, Reading};
+use logs::{Ceilings, Log, Reason, Refusal};
+
+// The work words that a caller lends.
+pub const WORK_WORDS: usize = 16384;
 
 // The outcome of a report call: a report with its count of words, a loop with its length, or a refusal with its number and place. The
 // words of a report or a loop stay in the lent output.
-#[derive(Clone, Copy)]
+#[derive(Clone, Copy, Debug, PartialEq, Eq)]
 pub enum Outcome {
     Report(usize),
     Loop(usize),
     Refused(u32, usize),
+}
+
+impl From<Refusal> for Outcome {
+    ghost use Rattle.report.specs.declared.Outcome.TheVariants.{Refused};
+
+    ghost from_gives = { λ r o. o ≡ Refused (reason_number r.reason) r.place };
+
+    fn from(refusal: Refusal) -> Outcome {
+        Outcome::Refused(refusal.number(), refusal.place)
+    }
 }
 
 // The output words that a report on `n` episodes needs.
@@ -28,28 +42,53 @@ fn report_need(n: usize) -> usize
     2 + 2 * n + (n + 1) * (n + 1) / 4
 }
 
-// The links and the ways of a log that passes, in work words of which those that are used are made zero first.
-pub fn prepare(log: &[u32], n: usize, w: &mut [u32])
-    requires { PassedLog log.now × ((graph_of log.now).n ≡ n) × (n < 256) × (length w.old ≡ work_words) }
-    ensures { Ready (graph_of log.now) n w.new }
+// Questions 11 and 12, of lent buffers with so many words, where the output needs `need`.
+pub fn lent(need: usize, output: usize, work: usize) -> Result<(), Refusal>
+    ensures { (a : ℕ × ℕ) → result_answer (λ _. a) result ≡ lent need output work (given a) }
 {
-    let used = USED;
-    bits::clear(&mut w[0..used]);
-    reach::reachability(log, n, w);
+    if output < need {
+        return Err(Reason::OutputTooShort.at(need));
+    }
+    if work < WORK_WORDS {
+        return Err(Reason::WorkTooShort.at(WORK_WORDS));
+    }
+    Ok(())
 }
 
-// Writes a loop, from the links and the ways in the work words, and gives its length, or 0 where there is none.
-pub fn show_loop(n: usize, out: &mut [u32], w: &mut [u32]) -> usize
+// Questions 1 to 12 of a report on a log, at a caller's ceilings.
+fn report_asked(
+    most: Ceilings,
+    words: &[u32],
+    output: usize,
+    work: usize,
+) -> Result<Log<'_>, Refusal>
+    requires { most.episodes < 256 }
+    ensures answer { result_answer (λ l. (l.episodes, l.to_words)) result ≡ asked most (λ n t. report_need n) words.now output work }
+    ensures same { IfOk result (λ l. l.words.now ≡ words.now) }
+{
+    let log = Log::read(most, words)?;
+    lent(report_need(log.episodes), output, work)?;
+    Ok(log)
+}
+
+// The links and the ways of a log, in work words of which those that are used are made zero first.
+pub fn prepare(log: Log, w: &mut [u32])
+    requires { (log.episodes < 256) × (length w.old ≡ work_words) }
+    ensures { Ready (graph_of log.entry.words.now) log.entry.episodes w.new }
+{
+    bits::clear(&mut w[0..USED]);
+    reach::reachability(log, w);
+}
+
+// Writes a loop, from the links and the ways in the work words, and gives its length, where there is one.
+pub fn show_loop(n: usize, out: &mut [u32], w: &mut [u32]) -> Option<usize>
     requires { (g : Graph) × Ready g n w.old × ((c : List ℕ) → Loop g c → length c + 1 ≤ length out.old) }
     ensures { (g : Graph) → Ready g n w.old
         → LoopSought g out.old w.old out.new w.new result }
 {
-    let v = reach::first_loop(w, n);
-    if v == n {
-        return 0;
-    }
+    let v = reach::first_loop(w, n)?;
     chains::find_loop(w, n, v);
-    writing::write_loop(w, v, out)
+    Some(writing::write_loop(w, v, out))
 }
 
 // The report or the loop, from the links and the ways in the work words.
@@ -57,21 +96,20 @@ fn answer(n: usize, out: &mut [u32], w: &mut [u32]) -> Outcome
     requires { ((g : Graph) × Ready g n w.old) × (report_need n ≤ length out.old) }
     ensures { (g : Graph) → Ready g n w.old → Answered g out.old out.new result }
 {
-    let length = show_loop(n, out, w);
-    if length != 0 {
+    if let Some(length) = show_loop(n, out, w) {
         return Outcome::Loop(length);
     }
     chains::join(w, WAYS, n);
     Outcome::Report(writing::write_report(w, n, out))
 }
 
-// The report or the loop of a log that passes, in work words of which none is left as it was.
-fn solve(log: &[u32], n: usize, out: &mut [u32], w: &mut [u32]) -> Outcome
-    requires { PassedLog log.now × ((graph_of log.now).n ≡ n) × (n < 256) × (report_need n ≤ length out.old) × (length w.old ≡ work_words) }
-    ensures { Answered (graph_of log.now) out.old out.new result × (w.new ≡ replicate (length w.old) 0) }
+// The report or the loop of a log, in work words of which none is left as it was.
+fn solve(log: Log, out: &mut [u32], w: &mut [u32]) -> Outcome
+    requires { (log.episodes < 256) × (report_need log.episodes ≤ length out.old) × (length w.old ≡ work_words) }
+    ensures { Answered (graph_of log.entry.words.now) out.old out.new result × (w.new ≡ replicate (length w.old) 0) }
 {
-    prepare(log, n, w);
-    let outcome = answer(n, out, w);
+    prepare(log, w);
+    let outcome = answer(log.episodes, out, w);
     bits::clear(w);
     outcome
 }
@@ -81,19 +119,9 @@ fn report_within(most: Ceilings, log: &[u32], out: &mut [u32], work: &mut [u32])
     requires { most.episodes < 256 }
     ensures { Left most log.now out.old work.old out.new work.new result }
 {
-    match logs::read_within(most, log) {
-        Reading::Refused(number, place) => Outcome::Refused(number, place),
-        Reading::Passed(n, _) => {
-            let need = report_need(n);
-            if out.len() < need {
-                return Outcome::Refused(11, need);
-            }
-            let end = 16384;
-            if work.len() < end {
-                return Outcome::Refused(12, end);
-            }
-            solve(log, n, out, &mut work[0..end])
-        }
+    match report_asked(most, log, out.len(), work.len()) {
+        Err(refusal) => Outcome::from(refusal),
+        Ok(log) => solve(log, out, &mut work[0..WORK_WORDS]),
     }
 }
 

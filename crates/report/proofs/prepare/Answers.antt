@@ -7,6 +7,6 @@ use Rattle.report.proofs.prepare.Goals as goal
 
 pub returns : goal.returns
 returns c =
+    let l = c.args.log in
     let zeroed = part_cleared c.args.w.now c.clear.new.w 0 used_words used_words (omega arith) (omega (arith, c.requires)) c.clear.ensures in
-    ready c.args.log.now c.args.n c.requires.0 c.requires.1 c.requires.2 (omega (arith, c.requires)) zeroed
-    c.reachability.ensures
+    ready l.words.now l.episodes l.to_words l.passes c.requires.0 (omega (arith, c.requires)) zeroed c.reachability.ensures

@@ -1,49 +1,43 @@
 -- `report::report_within` meets its contract: on each way out the questions have been answered as the outcome says, and the buffers are
 -- as it says. Assumes nothing.
+use mathlib.Core.Path.{sym, subst}
+use mathlib.Core.List.{List}
+use Prim.Native.Nat.{ℕ}
 use native.Mathlib.Omega.{arith}
 use lib.Seq.{length-take-le}
-use Rattle.logs.proofs.Laws.{graph_episodes}
+use Rattle.logs.specs.Answer.{reason_number}
+use Rattle.logs.specs.Log.{graph_of}
 use Rattle.report.specs.Report.{work_words}
-use Rattle.report.proofs.Calls.{told, passed_few, passed_log, left_denied, left_short_output, left_short_work, left_answered, work_cleared}
+use Rattle.report.specs.Solving.{Answered}
+use Rattle.report.proofs.Calls.{passed, passed_few, left_denied, left_answered, work_cleared}
 use Rattle.report.proofs.report_within.Goals as goal
 
-pub report_need-need-requires : goal.report_need-need-requires
-report_need-need-requires c =
-    let passed = told c.read_within.ensures c.in-Passed.is in
-    passed_few c.args.most c.args.log.now c.args.out.now c.args.work.now c.in-Passed.n c.in-Passed.field-1 passed c.requires
-
-pub returns-then-out-need : goal.returns-then-out-need
-returns-then-out-need c =
-    let passed = told c.read_within.ensures c.in-Passed.is in
-    let need = c.report_need-need in
-    left_short_output c.args.most c.args.log.now c.args.out.now c.args.work.now c.in-Passed.n c.in-Passed.field-1 passed
-    need.result need.ensures (omega arith)
-
-pub returns-then-work-end : goal.returns-then-work-end
-returns-then-work-end c =
-    let passed = told c.read_within.ensures c.in-Passed.is in
-    left_short_work c.args.most c.args.log.now c.args.out.now c.args.work.now c.in-Passed.n c.in-Passed.field-1 passed
-    (omega arith) (omega arith)
+pub slice_bounds-solve-end : goal.slice_bounds-solve-end
+slice_bounds-solve-end c =
+    let a = c.args in
+    let l = c.in-Ok.log in
+    omega (arith, (passed a.most a.log.now a.out.now a.work.now l.episodes l.to_words (sym c.in-Ok.ensures.answer)).2)
 
 pub solve-requires : goal.solve-requires
 solve-requires c =
-    let passed = told c.read_within.ensures c.in-Passed.is in (
-      passed_log c.args.most c.args.log.now c.args.out.now c.args.work.now c.in-Passed.n c.in-Passed.field-1 passed c.requires,
-      graph_episodes c.args.most c.args.log.now c.in-Passed.n c.in-Passed.field-1 passed,
-      passed_few c.args.most c.args.log.now c.args.out.now c.args.work.now c.in-Passed.n c.in-Passed.field-1 passed c.requires,
-      omega arith,
-      length-take-le work_words c.args.work.now (omega arith),
-    )
+    let a = c.args in
+    let l = c.in-Ok.log in
+    let yes = sym c.in-Ok.ensures.answer in
+    let p = passed a.most a.log.now a.out.now a.work.now l.episodes l.to_words yes in
+    (passed_few a.most a.log.now a.out.now a.work.now l.episodes l.to_words yes c.requires, p.1, length-take-le work_words a.work.now p.2)
 
-pub returns-in-Refused : goal.returns-in-Refused
-returns-in-Refused c =
-    left_denied c.args.most c.args.log.now c.args.out.now c.args.work.now c.in-Refused.number c.in-Refused.place
-    (told c.read_within.ensures c.in-Refused.is)
+pub returns-in-Err : goal.returns-in-Err
+returns-in-Err c =
+    let a = c.args in
+    let r = c.in-Err.refusal in
+    rw c.from.ensures (left_denied a.most a.log.now a.out.now a.work.now (reason_number r.reason) r.place (sym c.in-Err.ensures.answer))
 
-pub returns-else-work-end : goal.returns-else-work-end
-returns-else-work-end c =
-    let passed = told c.read_within.ensures c.in-Passed.is in
-    let done = c.solve in
-    left_answered c.args.most c.args.log.now c.args.out.now c.args.work.now c.in-Passed.n c.in-Passed.field-1 passed
-    done.new.out (omega arith) (omega arith) done.result done.ensures.0
-    (work_cleared c.args.work.now done.new.w (omega arith) done.ensures.1)
+pub returns-in-Ok : goal.returns-in-Ok
+returns-in-Ok c =
+    let a = c.args in
+    let l = c.in-Ok.log in
+    let yes = sym c.in-Ok.ensures.answer in
+    let p = passed a.most a.log.now a.out.now a.work.now l.episodes l.to_words yes in
+    left_answered a.most a.log.now a.out.now a.work.now l.episodes l.to_words yes c.solve.new.out c.solve.result
+    (subst (λ (v : List ℕ). Answered (graph_of v) a.out.now c.solve.new.out c.solve.result) c.in-Ok.ensures.same c.solve.ensures.0)
+    (work_cleared a.work.now c.solve.new.w p.2 c.solve.ensures.1)
