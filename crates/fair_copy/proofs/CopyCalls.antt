@@ -3,21 +3,23 @@ use mathlib.Core.Path.{◌≡◌, refl, sym}
 use mathlib.Core.List.{List}
 use Prim.Native.Nat.{ℕ}
 use lib.ListN.{length}
-use Rattle.logs.specs.Answer.{given, refused}
+use Rattle.std.specs.Prelude.{Ok, Err}
+use Rattle.logs.specs.Answer.{given, refused, reason_number}
 use Rattle.logs.specs.Log.{content_of, graph_of}
 use Rattle.logs.specs.declared.Ceilings.{Ceilings}
+use Rattle.logs.specs.declared.Refusal.{Refusal}
 use Rattle.logs.proofs.Laws.{graph_episodes, graph_count}
 use Rattle.writing.specs.Layout.{BeginsWith}
 use Rattle.copying.specs.FairCopy.{fair_words, fair_need}
 use Rattle.report.specs.Report.{cleared}
 use Rattle.fair_copy.specs.Copied.{copy_asked, CopyLeft}
-use Rattle.fair_copy.specs.declared.CopyOutcome.TheVariants.{Copied, Refused}
 use Rattle.report.proofs.Asked.{asked_given}
 
 -- refused
-pub copy_refused : (m : Ceilings) (l o w : List ℕ) (q p : ℕ) → copy_asked m l (length o) (length w) ≡ refused q p → CopyLeft m l o w o w (Refused q p)
+pub copy_refused : (m : Ceilings) (l o w : List ℕ) (r : Refusal) → copy_asked m l (length o) (length w) ≡ refused (reason_number r.reason) r.place
+    → CopyLeft m l o w o w (Err r)
 unfolding CopyLeft
-copy_refused m l o w q p e = (e, refl, refl)
+copy_refused m l o w r e = (e, refl, refl)
 
 -- questions that are answered yes were asked of the graph
 pub asked_graph : (m : Ceilings) (l : List ℕ) (out work n t : ℕ) → copy_asked m l out work ≡ given (n, t)
@@ -28,6 +30,6 @@ asked_graph m l out work n t e =
 
 -- copied
 pub copy_left : (m : Ceilings) (l o w : List ℕ) (n t : ℕ) → copy_asked m l (length o) (length w) ≡ given (n, t) → (o' : List ℕ) {w' : List ℕ} {c : ℕ}
-    → c ≡ length (fair_words (content_of l)) → BeginsWith (fair_words (content_of l)) o o' → w' ≡ cleared w → CopyLeft m l o w o' w' (Copied c)
+    → c ≡ length (fair_words (content_of l)) → BeginsWith (fair_words (content_of l)) o o' → w' ≡ cleared w → CopyLeft m l o w o' w' (Ok c)
 unfolding CopyLeft
 copy_left m l o w n t e o' count begins clean = (asked_graph m l (length o) (length w) n t e, sym count, begins, clean)

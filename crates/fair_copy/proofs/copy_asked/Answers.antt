@@ -1,47 +1,43 @@
--- `fair_copy::copy_asked` meets its contract: on each way out the questions have been answered as it says. Assumes nothing.
-use mathlib.Core.Path.{sym}
+-- `fair_copy::copy_asked` meets its contract: questions 1 to 10 are the reading's, 11 and 12 those of the lent buffers. Assumes nothing.
+use mathlib.Core.Path.{sym, ◌∙◌}
 use native.Mathlib.Omega.{arith}
+use Rattle.std.proofs.lemmas.Result.{err_from_is_err_and}
+use Rattle.logs.specs.Answer.{reason_number}
 use Rattle.logs.proofs.Laws.{words_small}
 use Rattle.copying.specs.FairCopy.{fair_need}
-use Rattle.report.proofs.Asked.{asked_denied, asked_short_output, asked_short_work, asked_passes}
-use Rattle.report.proofs.Calls.{told}
+use Rattle.report.proofs.Asked.{asked_read, asked_denied}
 use Rattle.fair_copy.proofs.copy_asked.Goals as goal
 
-pub overflow_mul-needed : goal.overflow_mul-needed
-overflow_mul-needed c =
-    let passed = told c.read_within.ensures c.in-Passed.is in
-    let few = words_small c.args.most c.args.log.now c.in-Passed.n c.in-Passed.t passed in
-    omega (arith, few)
-
-pub overflow_add-needed : goal.overflow_add-needed
-overflow_add-needed c =
-    let passed = told c.read_within.ensures c.in-Passed.is in
-    let few = words_small c.args.most c.args.log.now c.in-Passed.n c.in-Passed.t passed in
-    omega (arith, few)
-
-pub returns-then-output-needed : goal.returns-then-output-needed
-returns-then-output-needed c =
-    let passed = told c.read_within.ensures c.in-Passed.is in
+pub returns-in_err-log-clause-answer : goal.returns-in_err-log-clause-answer
+returns-in_err-log-clause-answer c =
     let a = c.args in
-    sym (asked_short_output a.most (λ j u. fair_need u) a.log.now a.output a.work c.in-Passed.n c.in-Passed.t passed (omega arith))
+    let p = err_from_is_err_and c.from_residual.result c.from_residual.ensures.1 in
+    let r = c.in_err-log.field-0.0 in
+    rw (p.1, p.2)
+    (sym (asked_denied a.most (λ j u. fair_need u) a.words.now a.output a.work (reason_number r.reason) r.place (sym c.in_err-log.ensures.answer)))
 
-pub returns-then-work-used : goal.returns-then-work-used
-returns-then-work-used c =
-    let passed = told c.read_within.ensures c.in-Passed.is in
-    let a = c.args in
-    sym
-    (asked_short_work a.most (λ j u. fair_need u) a.log.now a.output a.work c.in-Passed.n c.in-Passed.t passed (omega arith) (omega arith))
+pub overflow_mul-log : goal.overflow_mul-log
+overflow_mul-log c =
+    let l = c.in_ok-log.log in
+    omega (arith, words_small c.args.most c.args.words.now l.episodes l.to_words (sym c.in_ok-log.ensures.answer))
 
-pub returns-in-Refused : goal.returns-in-Refused
-returns-in-Refused c =
-    let a = c.args in
-    sym
-    (asked_denied a.most (λ j u. fair_need u) a.log.now a.output a.work c.in-Refused.number c.in-Refused.place
-    (told c.read_within.ensures c.in-Refused.is))
+pub overflow_add-log : goal.overflow_add-log
+overflow_add-log c =
+    let l = c.in_ok-log.log in
+    omega (arith, words_small c.args.most c.args.words.now l.episodes l.to_words (sym c.in_ok-log.ensures.answer))
 
-pub returns-else-work-used : goal.returns-else-work-used
-returns-else-work-used c =
-    let passed = told c.read_within.ensures c.in-Passed.is in
+pub returns-in_err-lent-clause-answer : goal.returns-in_err-lent-clause-answer
+returns-in_err-lent-clause-answer c =
     let a = c.args in
-    sym
-    (asked_passes a.most (λ j u. fair_need u) a.log.now a.output a.work c.in-Passed.n c.in-Passed.t passed (omega arith) (omega arith))
+    let p = err_from_is_err_and c.from_residual-in_err-lent.result c.from_residual-in_err-lent.ensures.1 in
+    let l = c.in_ok-log.log in
+    rw (p.1, p.2)
+    (c.in_err-lent.ensures (l.episodes, l.to_words)
+    ∙ sym (asked_read a.most (λ j u. fair_need u) a.words.now a.output a.work l.episodes l.to_words (sym c.in_ok-log.ensures.answer)))
+
+pub returns-clause-answer : goal.returns-clause-answer
+returns-clause-answer c =
+    let a = c.args in
+    let l = c.in_ok-log.log in
+    c.in_ok-lent.ensures (l.episodes, l.to_words)
+    ∙ sym (asked_read a.most (λ j u. fair_need u) a.words.now a.output a.work l.episodes l.to_words (sym c.in_ok-log.ensures.answer))
