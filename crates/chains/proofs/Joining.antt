@@ -41,25 +41,6 @@ pub record Joining (w₀ w : List ℕ) (base m a : ℕ) : Type 0 where
   pub pairs : (x b : ℕ) → x < m → b < m → (tables w).next x ≡ b + 1 → Pairs base w₀ x b
 
 module _ (w₀ : List ℕ) (base m : ℕ) (z : Chained w₀ base m) where
-  pub joining_start : (w : List ℕ) → ForgottenIn w₀ w → Joining w₀ w base m 0
-  joining_start w n =
-      record {
-        outside = outside_wider (omega arith) (omega arith) n.outside;
-        extendable =
-            record {
-              sized = sized_kept n.outside.same_length z.sized;
-              matching = matching_kept (omega arith) n.outside z.sized.items z.matching;
-              seen_dead =
-                  λ b bl.
-                  n.none_seen b (omega (arith, z.sized.items)) ∙ sym (n.none_dead b (omega (arith, z.sized.items)));
-              dead = dead_none (λ b bl. n.none_dead b (omega (arith, z.sized.items))) (λ a al l. absurd (omega arith));
-            };
-        pairs =
-            λ a b al bl h.
-            let e = (same_chains (omega arith) n.outside m z.sized.items).next_same a al in
-            z.pairs a b al bl (omega arith);
-      }
-
   module _ (w : List ℕ) (a : ℕ) (s : Joining w₀ w base m a) where
     -- the search from `a`
     pub joining_more : (w' : List ℕ) → a < m → ExtendedIn w w' base m a → Joining w₀ w' base m (a + 1)

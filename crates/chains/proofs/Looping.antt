@@ -28,21 +28,6 @@ module _ (e w₁ w₂ : List ℕ) (m v : ℕ) (long : used_words ≤ length e) (
   links : SameChains m (tables w₁) (tables w₂)
   links = same_chains (omega arith) n.outside m items
 
-  pub extend_asked : (base : ℕ) → base + matrix_words ≤ next_at → Extendable w₂ base m v
-  extend_asked base fits =
-      record {
-        sized = sized_kept selves_outside.same_length (sized base fits);
-        matching = matching_kept (omega arith) n.outside items (selves_matching s.selves);
-        seen_dead = λ b bl. n.none_seen b (omega arith) ∙ sym (n.none_dead b (omega arith));
-        dead =
-            dead_none (λ b bl. n.none_dead b (omega arith))
-            (λ a al l.
-            let f : a ≢ v = λ g. absurd (omega arith) in
-            let g = links.next_same a al in
-            let h = s.selves.next_self a al f in
-            omega arith);
-      }
-
   -- the matrix there is that of the links
   module _ (g : Graph) (k : Matrix links_at e (Link g)) where
     sound : Within m (Pairs links_at w₂) (Link g)

@@ -131,35 +131,6 @@ module _ (w : List ℕ) (base m a : ℕ) (s : Pairing m (Pairs base w) (tables w
 
 -- ---- the pass; `e` are the words at first
 
-pub pairs_start : (e w₀ : List ℕ) (base m : ℕ) → Sized e base m → ((i : ℕ) → next_at ≤ i → i < via_at → get_or e i 0 ≡ 0) → ForgottenIn e w₀
-    → PairedIn e w₀ base m 0
-pairs_start e w₀ base m z none u =
-    record {
-      outside = outside_wider (omega arith) (omega arith) u.outside;
-      pairing =
-          record {
-            matching =
-                record {
-                  next_le = λ a al. omega (arith, next_none a al);
-                  prev_le = λ b bl. omega (arith, prev_none b bl);
-                  there = λ a b al bl h. absurd (omega (arith, next_none a al));
-                  back = λ a b al bl h. absurd (omega (arith, prev_none b bl));
-                };
-            pairs = λ a b al bl h. let bad : ⊥ = omega (arith, next_none a al) in absurd bad;
-            next_none = λ a h al. next_none a al;
-            prev_none = λ b bl h. prev_none b bl;
-          };
-    }
-  where
-    zero : (i : ℕ) → next_at ≤ i → i < via_at → get_or w₀ i 0 ≡ 0
-    zero i h k = u.outside.before i (omega arith) ∙ none i h k
-
-    next_none : (a : ℕ) → a < m → get_or w₀ (next_at + a) 0 ≡ 0
-    next_none a al = zero (next_at + a) (omega arith) (omega (arith, z.items))
-
-    prev_none : (b : ℕ) → b < m → get_or w₀ (prev_at + b) 0 ≡ 0
-    prev_none b bl = zero (prev_at + b) (omega arith) (omega (arith, z.items))
-
 module _ (e w : List ℕ) (base m a : ℕ) (z : Sized e base m) (p : PairedIn e w base m a) where
   pub pair_asked : a < m → Sized w base m × Pairing m (Pairs base w) (tables w) a × (a < m)
   pair_asked al = (sized_kept p.outside.same_length z, pairing_within (forth z (omega arith) p.outside) p.pairing, al)

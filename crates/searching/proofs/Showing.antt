@@ -1,5 +1,5 @@
 -- What an item of the queue shows: from one new item to the next, up to one with none before it or to the last.
-use mathlib.Core.Path.{◌≡◌, refl, ◌∙◌}
+use mathlib.Core.Path.{◌≡◌, ◌∙◌}
 use mathlib.Core.List.{List}
 use Prim.Native.Nat.{ℕ, ◌+◌, ◌*◌, ◌≤◌, ◌<◌}
 use native.Mathlib.Omega.{arith}
@@ -7,8 +7,8 @@ use lib.ListN.{length}
 use Rattle.bits.specs.Bits.{NextNew}
 use Rattle.bits.specs.Work.{next_at, via_at, seen_at, dead_at, Outside}
 use Rattle.searching.specs.Items.{Tables, SameChains, Matching, Searching, Saw, Flipped}
-use Rattle.searching.specs.State.{tables, deads, Pairs, Sized, SawIn, ShowAsked, ShownIn}
-use Rattle.bits.proofs.Frames.{outside_none, outside_then}
+use Rattle.searching.specs.State.{tables, deads, Pairs, Sized, SawIn, ShownIn}
+use Rattle.bits.proofs.Frames.{outside_then}
 use Rattle.searching.proofs.Frames.{pairs_kept, pairs_were, next_before, prev_before}
 use Rattle.searching.proofs.Relations.{Within}
 use Rattle.searching.proofs.Searches.{matching_same, saw_matching, saw_searching, item_done, found}
@@ -71,20 +71,6 @@ pub record Showing (w₀ w : List ℕ) (base m head row end from : ℕ) : Type 0
   pub source : (tables w).queue 0 ≡ (tables w₀).queue 0
   pub row_is : row ≡ base + 8 * (tables w).queue head
   pub from_le : from ≤ 256
-
-pub showing_start : (w : List ℕ) (base m head tail : ℕ) → ShowAsked w base m head tail
-    → Showing w w base m head (base + 8 * (tables w).queue head) tail 0
-showing_start w base m head tail (z, k, s, hd) =
-    record {
-      sized = z;
-      outside = outside_none via_at dead_at w;
-      matching = k;
-      searching = s;
-      inside = hd;
-      source = refl;
-      row_is = refl;
-      from_le = omega arith;
-    }
 
 -- `r` is the first from `from` on that the item at `head` has and that was not seen
 module _

@@ -9,8 +9,8 @@ use lib.ListN.{length, get_or, set, length-set}
 use lib.Seq.{get_or-set_same, get_or-set_other}
 use Rattle.bits.specs.Bits.{bit, BitSet}
 use Rattle.bits.specs.Work.{next_at, prev_at, via_at, queue_at, seen_at, dead_at, used_words, Outside}
-use Rattle.searching.specs.State.{figure, PutIn, SawIn}
-use Rattle.bits.proofs.Frames.{outside_set, outside_more, bit_stored}
+use Rattle.searching.specs.State.{figure, SawIn}
+use Rattle.bits.proofs.Frames.{outside_more, bit_stored}
 
 -- ---- whether a table's word names an item
 
@@ -100,29 +100,3 @@ module _ (w w₁ : List ℕ) (head b tail : ℕ) (fits : used_words ≤ length w
                 seen_other = λ c h ne. bit_other c h ∙ seen_bit c h ∙ s.others c ne;
               };
         }
-
--- ---- an item is put behind another
-
-module _ (w : List ℕ) (a b : ℕ) (fits : used_words ≤ length w) (from : a < 256) (below : b < 256) where
-  abbrev pair_words : List ℕ
-  pair_words = set (set w (next_at + a) (b + 1)) (prev_at + b) (a + 1)
-
-  pub put : PutIn w pair_words a b
-  put =
-      record {
-        outside =
-            outside_more (prev_at + b) (a + 1) (omega arith) (omega arith) (outside_set w (next_at + a) (b + 1) (omega arith) (omega arith));
-        flipped =
-            record {
-              next_here = second (next_at + a) (λ e. absurd (omega arith)) ∙ get_or-set_same w (next_at + a) (b + 1) 0 (omega arith);
-              next_other = λ c h ne. second (next_at + c) (λ e. absurd (omega arith)) ∙ first (next_at + c) (λ e. ne (omega arith));
-              prev_here = get_or-set_same (set w (next_at + a) (b + 1)) (prev_at + b) (a + 1) 0 (simp length-set (omega arith));
-              prev_other = λ c h ne. second (prev_at + c) (λ e. ne (omega arith)) ∙ first (prev_at + c) (λ e. absurd (omega arith));
-            };
-      }
-    where
-      first : (i : ℕ) → i ≢ next_at + a → get_or (set w (next_at + a) (b + 1)) i 0 ≡ get_or w i 0
-      first i ne = get_or-set_other w (next_at + a) i (b + 1) 0 ne
-
-      second : (i : ℕ) → i ≢ prev_at + b → get_or pair_words i 0 ≡ get_or (set w (next_at + a) (b + 1)) i 0
-      second i ne = get_or-set_other (set w (next_at + a) (b + 1)) (prev_at + b) i (a + 1) 0 ne

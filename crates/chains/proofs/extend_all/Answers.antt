@@ -1,9 +1,6 @@
 use native.Mathlib.Omega.{arith}
-use Rattle.chains.proofs.Joining.{joining_start, joining_more, joining_end}
+use Rattle.chains.proofs.Joining.{joining_more, joining_end}
 use Rattle.chains.proofs.extend_all.Goals as goal
-
-pub loop-from-init : goal.loop-from-init
-loop-from-init c = joining_start c.args.w.now c.args.base c.args.m c.requires c.forget.new.w c.forget.ensures
 
 pub loop-from-preserved : goal.loop-from-preserved
 loop-from-preserved c =

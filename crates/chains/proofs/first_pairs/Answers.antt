@@ -1,9 +1,6 @@
 use native.Mathlib.Omega.{arith}
-use Rattle.chains.proofs.Pairs.{pairs_start, pair_asked, paired_more}
+use Rattle.chains.proofs.Pairs.{pair_asked, paired_more}
 use Rattle.chains.proofs.first_pairs.Goals as goal
-
-pub loop-a-init : goal.loop-a-init
-loop-a-init c = pairs_start c.args.w.now c.forget.new.w c.args.base c.args.m c.requires.0 c.requires.1 c.forget.ensures
 
 pub pair-requires : goal.pair-requires
 pair-requires c =

@@ -1,11 +1,8 @@
 use Rattle.std.proofs.Common.{◌≡◌, rules, arith}
 use Rattle.bits.specs.Bits.{place_or_end}
 use Rattle.searching.proofs.Words.{figure_none, figure_some}
-use Rattle.searching.proofs.Showing.{showing_start, showing_more, showing_found, showing_end}
+use Rattle.searching.proofs.Showing.{showing_more, showing_found, showing_end}
 use Rattle.searching.proofs.show.Goals as goal
-
-pub loop-b-init : goal.loop-b-init
-loop-b-init c = showing_start c.args.w.now c.args.base c.args.m c.args.head c.args.tail c.requires
 
 pub returns-then-is_none : goal.returns-then-is_none
 returns-then-is_none c =
