@@ -1,18 +1,18 @@
 -- As few chains as can be, by a search from each item that ends a chain, after the first pairs.
-use mathlib.Core.Path.{◌≡◌, refl, sym, subst, ◌∙◌}
+use mathlib.Core.Path.{◌≡◌, refl, subst}
 use mathlib.Core.Logic.{⊎_elim}
 use mathlib.Core.List.{List}
 use Prim.Native.Nat.{ℕ, ◌+◌, ◌<◌}
 use native.Mathlib.Omega.{arith}
 use Rattle.bits.specs.Work.{next_at, Outside, none_at}
-use Rattle.bits.proofs.Frames.{outside_then, outside_wider}
+use Rattle.bits.proofs.Frames.{outside_then}
 use Rattle.searching.specs.Items.{Dead}
-use Rattle.searching.specs.State.{tables, deads, Pairs, Sized, ForgottenIn, Extendable}
+use Rattle.searching.specs.State.{tables, deads, Pairs, Sized, Extendable}
 use Rattle.chains.specs.Joined.{PairedIn, ExtendedIn, Chained, JoinedIn}
-use Rattle.searching.proofs.Deads.{dead_none, dead_moved, dead_exhausted}
+use Rattle.searching.proofs.Deads.{dead_moved, dead_exhausted}
 use Rattle.searching.proofs.Relations.{chains_none, exhausted_within}
 use Rattle.searching.proofs.Searches.{matching_same}
-use Rattle.searching.proofs.Showing.{matching_kept, same_chains, sized_kept, forth, back}
+use Rattle.searching.proofs.Showing.{sized_kept, forth, back}
 
 -- after the first pairs
 module _ (w w' : List ℕ) (base m : ℕ) (z : Sized w base m) (p : PairedIn w w' base m m) where

@@ -1,6 +1,6 @@
 -- A search from one item where each other one stands behind itself: what it leaves for a loop.
-use mathlib.Core.Path.{◌≡◌, refl, sym, ◌∙◌}
-use mathlib.Core.Logic.{◌⊎◌, inl, inr, ◌≢◌}
+use mathlib.Core.Path.{◌≡◌, refl}
+use mathlib.Core.Logic.{◌⊎◌, inl, inr}
 use mathlib.Core.List.{List}
 use Prim.Native.Nat.{ℕ, ◌+◌, ◌≤◌, ◌<◌}
 use native.Mathlib.Omega.{arith}
@@ -10,12 +10,12 @@ use Rattle.bits.proofs.Frames.{outside_then, outside_wider}
 use Rattle.paths.specs.Graph.{Graph, EndsBelow, Link, Way}
 use Rattle.searching.specs.Items.{SameChains, Dead, Shrunk}
 use Rattle.chains.specs.Cycles.{Selves}
-use Rattle.searching.specs.State.{tables, deads, Pairs, Sized, ForgottenIn, Extendable}
+use Rattle.searching.specs.State.{tables, deads, Pairs, Sized, ForgottenIn}
 use Rattle.chains.specs.Joined.{SelvesIn, ExtendedIn, LoopedIn}
-use Rattle.chains.proofs.Cycle.{selves_matching, no_way_back}
-use Rattle.searching.proofs.Deads.{dead_none, dead_moved}
+use Rattle.chains.proofs.Cycle.{no_way_back}
+use Rattle.searching.proofs.Deads.{dead_moved}
 use Rattle.searching.proofs.Relations.{Within, chains_none, links_then, shrunk_within, shrunk_from}
-use Rattle.searching.proofs.Showing.{matching_kept, same_chains, sized_kept, forth, back}
+use Rattle.searching.proofs.Showing.{same_chains, forth, back}
 
 -- `e` are the words at first, `w₁` those with each item but `v` behind itself, and in `w₂` besides nothing is seen or dead
 module _ (e w₁ w₂ : List ℕ) (m v : ℕ) (long : used_words ≤ length e) (items : m < 256) (s : SelvesIn e w₁ m v) (n : ForgottenIn w₁ w₂) where

@@ -2,15 +2,14 @@
 use mathlib.Core.Path.{◌≡◌, ◌∙◌}
 use mathlib.Core.Logic.{◌≢◌, inl, ⊎_elim}
 use mathlib.Core.List.{List}
-use Prim.Native.Nat.{ℕ, ◌+◌, ◌*◌, ◌≤◌, ◌<◌}
+use Prim.Native.Nat.{ℕ, ◌+◌, ◌*◌, ◌<◌}
 use native.Mathlib.Decide.{ℕ_discrete}
 use native.Mathlib.Omega.{arith}
-use lib.ListN.{get_or}
 use Rattle.bits.specs.Bits.{BitSet, NextNew}
-use Rattle.bits.specs.Work.{next_at, prev_at, via_at, seen_at, Outside, none_at}
-use Rattle.bits.proofs.Frames.{outside_none, outside_then, outside_wider, bit_behind}
+use Rattle.bits.specs.Work.{seen_at, Outside, none_at}
+use Rattle.bits.proofs.Frames.{outside_then, outside_wider, bit_behind}
 use Rattle.searching.specs.Items.{Tables, Pairing, Trail, Flipping, Flipped, Shrunk}
-use Rattle.searching.specs.State.{tables, Pairs, Sized, ForgottenIn, PutIn}
+use Rattle.searching.specs.State.{tables, Pairs, Sized, PutIn}
 use Rattle.chains.specs.Joined.{PairedIn}
 use Rattle.chains.proofs.Flips.{flip_end}
 use Rattle.searching.proofs.Frames.{next_before, prev_before}
@@ -18,16 +17,6 @@ use Rattle.searching.proofs.Relations.{pairing_within}
 use Rattle.searching.proofs.Showing.{sized_kept, forth, back}
 
 module _ {m : ℕ} {R : ℕ → ℕ → Type 0} {t : Tables} {a : ℕ} (s : Pairing m R t a) where
-  -- `a` gets none
-  pairing_skip : Pairing m R t (a + 1)
-  pairing_skip =
-      record {
-        matching = s.matching;
-        pairs = s.pairs;
-        next_none = λ x h xl. s.next_none x (omega arith) xl;
-        prev_none = s.prev_none;
-      }
-
   -- `a` gets `b`: what a search would do that has `a` alone in its queue
   pairing_more : {t' : Tables} (b : ℕ) → a < m → b < m → R a b → t.seen b ≡ 0 → Flipped m t t' a b → t'.seen b ≡ 1
       → ((c : ℕ) → c < m → c ≢ b → t'.seen c ≡ t.seen c) → Pairing m R t' (a + 1)
@@ -87,10 +76,6 @@ module _ {m : ℕ} {R : ℕ → ℕ → Type 0} {t : Tables} {a : ℕ} (s : Pair
 -- ---- one item
 
 module _ (w : List ℕ) (base m a : ℕ) (s : Pairing m (Pairs base w) (tables w) a) where
-  -- it gets none
-  pub pair_none : PairedIn w w base m (a + 1)
-  pair_none = record { outside = outside_none next_at none_at w; pairing = pairing_skip s }
-
   -- it gets `b`; `w₁` is `w` with the bit of `b` set
   pub pair_one : (w₁ w₂ : List ℕ) (b : ℕ) → Sized w base m → a < m → b < m → NextNew w (base + 8 * a) seen_at 0 b → BitSet w w₁ seen_at b
       → PutIn w₁ w₂ a b → PairedIn w w₂ base m (a + 1)

@@ -1,5 +1,4 @@
 -- `chains::find_loop` meets its contract. Assumes nothing.
-use native.Mathlib.Omega.{arith}
 use Rattle.chains.proofs.Looping.{looped}
 use Rattle.chains.proofs.find_loop.Goals as goal
 
