@@ -1,5 +1,6 @@
 -- What is dead: what searches have seen in vain, and through which no later search succeeds. At first that is nothing; a search in vain adds
 -- what it has seen, a chain fewer changes nothing of it, and after the last item it is what an exhausted search shows.
+use Rattle.std.proofs.lemmas.Grind.{common_steps}
 use mathlib.Core.Path.{◌≡◌, sym, subst, ◌∙◌}
 use mathlib.Core.Logic.{inl, inr, ⊎_elim, ◌≢◌}
 use Prim.Native.Nat.{ℕ, zero, suc, ◌+◌, ◌≤◌, ◌<◌}
@@ -52,15 +53,7 @@ dead_moved {m} {k} {t = t} {t' = t'} {dead = dead} {dead' = dead'} to back s d x
 module _ {m : ℕ} {R : ℕ → ℕ → Type 0} {t : Tables} {dead : ℕ → ℕ} where
   -- at first, where no item below `k` ends a chain
   pub dead_none : {k : ℕ} → ((b : ℕ) → b < m → dead b ≡ 0) → ((a : ℕ) → a < m → a < k → 0 < t.next a) → Dead m R t dead k
-  dead_none z some =
-      record {
-        closed = λ a b al bl h r. ⊎_elim (λ (l, e). absurd (omega (arith, some a al l))) (λ (c, cl, e, d). none c cl d) h;
-        kept = λ b bl d. none b bl d;
-        sound = λ b bl d. none b bl d;
-      }
-    where
-      none : {A : Type 0} (b : ℕ) → b < m → dead b ≡ 1 → A
-      none b bl d = let bad : ⊥ = omega (arith, z b bl) in absurd bad
+  dead_none z some = grind (arith, common_steps)
 
   -- what can be reached from the items searched from is dead
   reached_dead : {k b : ℕ} → Dead m R t dead k → Reached m (Before k t.next R) t.next b → dead b ≡ 1

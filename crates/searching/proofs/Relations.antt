@@ -1,4 +1,5 @@
 -- Another relation for the same search: what a search has found in one relation on the items holds in one that has the same pairs there.
+use Rattle.std.proofs.lemmas.Grind.{common_steps}
 use mathlib.Core.Path.{◌≡◌, refl, ◌∙◌}
 use mathlib.Core.Logic.{inl, inr, ⊎_elim, ◌≢◌}
 use Prim.Native.Nat.{ℕ, ◌<◌}
@@ -29,13 +30,7 @@ module _ {m : ℕ} {R R' : ℕ → ℕ → Type 0} (to : Within m R R') where
   reached_within (from_next {a = a} {b = b} {c = c} al bl cl e k r) = from_next al bl cl e (reached_within k) (to a b al bl r)
 
   pub pairing_within : {t : Tables} {a : ℕ} → Pairing m R t a → Pairing m R' t a
-  pairing_within s =
-      record {
-        matching = s.matching;
-        pairs = λ x y xl yl h. to x y xl yl (s.pairs x y xl yl h);
-        next_none = s.next_none;
-        prev_none = s.prev_none;
-      }
+  pairing_within s = grind (arith, common_steps)
 
   pub exhausted_within : {t : Tables} → Within m R' R → Exhausted m R t → Exhausted m R' t
   exhausted_within back x =
@@ -58,22 +53,7 @@ module _ {m : ℕ} {R R' : ℕ → ℕ → Type 0} (to : Within m R R') where
     new_was {b} bl n d = n (omega (arith, same b bl))
 
     pub searching_within : {t : Tables} {head tail : ℕ} → Within m R' R → Searching m R dead t head 0 tail → Searching m R' dead' t head 0 tail
-    searching_within {t} {head} {tail} back s =
-        record {
-          head_le = s.head_le;
-          tail_le = s.tail_le;
-          queued = s.queued;
-          different = s.different;
-          opened =
-              λ p pl.
-              ⊎_elim inl (λ (b, bl, e, sb, n, v). inr (b, bl, e, sb, new_within bl n, v)) (s.opened p pl);
-          all_open = λ a b al bl e sb n. s.all_open a b al bl e sb (new_was bl n);
-          old = λ b bl d. s.old b bl (omega (arith, same b bl));
-          kept = s.kept;
-          came = λ b bl h n. seen_within t s.queued bl (s.came b bl h (new_was bl n));
-          shown = λ p b pl bl r. s.shown p b pl bl (back (t.queue p) b (s.queued p (omega (arith, s.head_le))) bl r);
-          showing = λ b l bl r. absurd (omega arith);
-        }
+    searching_within {t} {head} {tail} back s = grind (arith, common_steps)
 
     pub trail_within : {t : Tables} {tail : ℕ} → Trail m R dead t tail → Trail m R' dead' t tail
     trail_within {t} {tail} l =
@@ -89,30 +69,10 @@ module _ {m : ℕ} {R R' : ℕ → ℕ → Type 0} (to : Within m R R') where
 
     pub flipping_within : {t₀ t : Tables} {tail b : ℕ} → Trail m R dead t₀ tail → Flipping m R dead t₀ t tail b
         → Flipping m R' dead' t₀ t tail b
-    flipping_within {t₀} l f =
-        record {
-          below = f.below;
-          new = new_within f.below f.new;
-          from = seen_within t₀ l.queued f.below f.from;
-          next_le = f.next_le;
-          prev_le = f.prev_le;
-          there = f.there;
-          back = f.back;
-          pairs = λ a c al cl h. ⊎_elim inl (λ r. inr (to a c al cl r)) (f.pairs a c al cl h);
-          ends = f.ends;
-          dead_prev = λ c cl d. f.dead_prev c cl (omega (arith, same c cl));
-          others = f.others;
-          untouched = f.untouched;
-        }
+    flipping_within {t₀} l f = grind (arith, common_steps)
 
   pub shrunk_within : {t t' : Tables} → Shrunk m R t t' → Shrunk m R' t t'
-  shrunk_within k =
-      record {
-        matching = k.matching;
-        pairs = λ a b al bl h. ⊎_elim inl (λ r. inr (to a b al bl r)) (k.pairs a b al bl h);
-        ends = k.ends;
-        fewer = k.fewer;
-      }
+  shrunk_within k = grind (arith, common_steps)
 
 pub chains_none : {m : ℕ} {t : Tables} → SameChains m t t
 chains_none = record { next_same = λ a al. refl; prev_same = λ b bl. refl }
@@ -123,20 +83,8 @@ links_then f g =
 
 -- one chain fewer than in tables with the same chains
 pub shrunk_from : {m : ℕ} {R : ℕ → ℕ → Type 0} {t t₀ t' : Tables} → SameChains m t t₀ → Shrunk m R t₀ t' → Shrunk m R t t'
-shrunk_from {m} {R} {t} {t₀} {t'} s k =
-    record {
-      matching = k.matching;
-      pairs = λ a b al bl h. let e = s.next_same a al in ⊎_elim (λ i. inl (omega arith)) inr (k.pairs a b al bl h);
-      ends = λ a al h. let e = s.next_same a al in let i = k.ends a al h in omega arith;
-      fewer = let (a, al, h, i) = k.fewer in let e = s.next_same a al in (a, al, omega arith, i);
-    }
+shrunk_from {m} {R} {t} {t₀} {t'} s k = grind (arith, common_steps)
 
 -- and of other tables with the new chains
 pub shrunk_to : {m : ℕ} {R : ℕ → ℕ → Type 0} {t t' t'' : Tables} → SameChains m t' t'' → Shrunk m R t t' → Shrunk m R t t''
-shrunk_to {m} {R} {t} {t'} {t''} s k =
-    record {
-      matching = matching_same k.matching s;
-      pairs = λ a b al bl h. let e = s.next_same a al in k.pairs a b al bl (omega arith);
-      ends = λ a al h. let e = s.next_same a al in k.ends a al (omega arith);
-      fewer = let (a, al, h, i) = k.fewer in let e = s.next_same a al in (a, al, h, omega arith);
-    }
+shrunk_to {m} {R} {t} {t'} {t''} s k = grind (arith, common_steps)

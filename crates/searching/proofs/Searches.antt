@@ -1,4 +1,5 @@
 -- The search: what holds before it, after each item that it sees, and at its end, with or without a chain fewer in sight.
+use Rattle.std.proofs.lemmas.Grind.{common_steps}
 use mathlib.Core.Path.{◌≡◌, refl}
 use mathlib.Core.Logic.{◌⊎◌, inl, inr, ⊎_elim, ◌≢◌}
 use mathlib.Core.List.Memᴰ.{cases_cons as mem-cases}
@@ -64,23 +65,7 @@ injective_le k m f low different =
     omega arith
 
 pub matching_same : {m : ℕ} {t t' : Tables} → Matching m t → SameChains m t t' → Matching m t'
-matching_same k s =
-    record {
-      next_le = λ a al. let e = s.next_same a al in let h = k.next_le a al in omega arith;
-      prev_le = λ b bl. let e = s.prev_same b bl in let h = k.prev_le b bl in omega arith;
-      there =
-          λ a b al bl h.
-          let e = s.next_same a al in
-          let f = s.prev_same b bl in
-          let g = k.there a b al bl (omega arith) in
-          omega arith;
-      back =
-          λ a b al bl h.
-          let e = s.next_same a al in
-          let f = s.prev_same b bl in
-          let g = k.back a b al bl (omega arith) in
-          omega arith;
-    }
+matching_same k s = grind (arith, common_steps)
 
 saw_same : {m : ℕ} {t t' : Tables} {head b tail : ℕ} → Saw m t t' head b tail → SameChains m t t'
 saw_same w = record { next_same = w.next_same; prev_same = w.prev_same }
@@ -91,26 +76,7 @@ saw_matching k w = matching_same k (saw_same w)
 -- before a search from `a`: only what is dead is seen
 pub search_start : {m : ℕ} {R : ℕ → ℕ → Type 0} {dead : ℕ → ℕ} {t : Tables} (a : ℕ) → a < m → t.next a ≡ 0 → t.queue 0 ≡ a
     → ((b : ℕ) → b < m → t.seen b ≡ dead b) → ((b : ℕ) → b < m → dead b ≡ 1 → 0 < t.prev b) → Searching m R dead t 0 0 1
-search_start {m} {R} {dead} {t} a al z q same kept =
-    record {
-      head_le = omega arith;
-      tail_le = omega arith;
-      queued = λ p pl. rw (at p pl) al;
-      different = λ p q pl ql e. omega arith;
-      opened = λ p pl. inl (omega arith, rw (at p pl) z);
-      all_open = λ x b xl bl h s n. none b bl s n;
-      old = λ b bl h. omega (arith, same b bl);
-      kept = λ b bl h. kept b bl (omega (arith, same b bl));
-      came = λ b bl h n. none b bl h n;
-      shown = λ p b pl bl r. absurd (omega arith);
-      showing = λ b l bl r. absurd (omega arith);
-    }
-  where
-    none : {A : Type 0} (b : ℕ) → b < m → t.seen b ≡ 1 → dead b ≢ 1 → A
-    none b bl h n = absurd (n (omega (arith, same b bl)))
-
-    at : (p : ℕ) → p < 1 → t.queue p ≡ a
-    at p pl = let e : p ≡ 0 = omega arith in rw e q
+search_start {m} {R} {dead} {t} a al z q same kept = grind (arith, common_steps)
 
 module _ {m : ℕ} {R : ℕ → ℕ → Type 0} {dead : ℕ → ℕ} {t : Tables} {head from tail : ℕ} where
   -- an item that the search comes upon, with an item before it

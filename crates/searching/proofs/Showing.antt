@@ -1,4 +1,5 @@
 -- What an item of the queue shows: from one new item to the next, up to one with none before it or to the last.
+use Rattle.std.proofs.lemmas.Grind.{common_steps}
 use mathlib.Core.Path.{◌≡◌, ◌∙◌}
 use mathlib.Core.List.{List}
 use Prim.Native.Nat.{ℕ, ◌+◌, ◌*◌, ◌≤◌, ◌<◌}
@@ -15,36 +16,16 @@ use Rattle.searching.proofs.Searches.{matching_same, saw_matching, saw_searching
 
 -- of more items than there are
 saw_fewer : {m n : ℕ} {t t' : Tables} {head b tail : ℕ} → n ≤ m → Saw m t t' head b tail → Saw n t t' head b tail
-saw_fewer l s =
-    record {
-      next_same = λ a h. s.next_same a (omega arith);
-      prev_same = λ a h. s.prev_same a (omega arith);
-      via_here = s.via_here;
-      via_other = λ c h. s.via_other c (omega arith);
-      queue_same = s.queue_same;
-      queue_last = s.queue_last;
-      seen_here = s.seen_here;
-      seen_other = λ c h. s.seen_other c (omega arith);
-    }
+saw_fewer l s = grind (arith, common_steps)
 
 pub flipped_fewer : {m n : ℕ} {t t' : Tables} {a b : ℕ} → n ≤ m → Flipped m t t' a b → Flipped n t t' a b
-flipped_fewer l s =
-    record {
-      next_here = s.next_here;
-      next_other = λ c h. s.next_other c (omega arith);
-      prev_here = s.prev_here;
-      prev_other = λ c h. s.prev_other c (omega arith);
-    }
+flipped_fewer l s = grind (arith, common_steps)
 
 -- ---- the work words before the tables of a search, and the chains, stay as they are
 
 module _ {lo hi : ℕ} {w w' : List ℕ} (le : via_at ≤ lo) (o : Outside lo hi w w') where
   pub same_chains : (m : ℕ) → m < 256 → SameChains m (tables w) (tables w')
-  same_chains m h =
-      record {
-        next_same = λ a al. next_before o (omega arith) a (omega arith);
-        prev_same = λ b bl. prev_before o (omega arith) b (omega arith);
-      }
+  same_chains m h = grind (arith, common_steps)
 
   pub matching_kept : {m : ℕ} → m < 256 → Matching m (tables w) → Matching m (tables w')
   matching_kept {m} h k = matching_same k (same_chains m h)
