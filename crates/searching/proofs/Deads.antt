@@ -46,9 +46,7 @@ dead_moved {m} {k} {t = t} {t' = t'} {dead = dead} {dead' = dead'} to back s d x
     }
   where
     spent : (a : ℕ) → a < m → Spent m t' dead' k a → Spent m t dead k a
-    spent a al h =
-        let e = s.next_same a al in
-        ⊎_elim (λ (l, z). inl (l, omega arith)) (λ (c, cl, f, g). inr (c, cl, omega arith, omega (arith, d c cl))) h
+    spent a al h = grind (arith, common_steps)
 
 module _ {m : ℕ} {R : ℕ → ℕ → Type 0} {t : Tables} {dead : ℕ → ℕ} where
   -- at first, where no item below `k` ends a chain
@@ -131,9 +129,7 @@ module _ {m : ℕ} {R : ℕ → ℕ → Type 0} {t : Tables} {dead : ℕ → ℕ
             inr (c, cl, k.back y c yl cl (omega (arith, f.dead_prev c cl d)), d)
 
         pair : (y c : ℕ) → y < m → c < m → t.next y ≡ c + 1 → dead c ≡ 1 → t'.next y ≡ c + 1
-        pair y c yl cl e d =
-            let j = k.there y c yl cl e in
-            f.shrunk.matching.back y c yl cl (omega (arith, f.dead_prev c cl d))
+        pair y c yl cl e d = grind (arith, common_steps)
 
         moved : {b : ℕ} → Reached m (Before a t.next R) t.next b → Reached m (Before (a + 1) t'.next R) t'.next b
         moved (from_end {a = y} yl bl e (h, r)) =

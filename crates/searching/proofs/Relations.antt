@@ -1,7 +1,7 @@
 -- Another relation for the same search: what a search has found in one relation on the items holds in one that has the same pairs there.
 use Rattle.std.proofs.lemmas.Grind.{common_steps}
 use mathlib.Core.Path.{◌≡◌, refl, ◌∙◌}
-use mathlib.Core.Logic.{inl, inr, ⊎_elim, ◌≢◌}
+use mathlib.Core.Logic.{◌≢◌}
 use Prim.Native.Nat.{ℕ, ◌<◌}
 use native.Mathlib.Omega.{arith}
 use Rattle.searching.specs.Items.{
@@ -18,7 +18,6 @@ use Rattle.searching.specs.Items.{
   Shrunk,
   SameChains,
 }
-use Rattle.searching.proofs.Searches.{matching_same}
 
 -- each pair of items in R is in R'
 abbrev pub Within : ℕ → (ℕ → ℕ → Type 0) → (ℕ → ℕ → Type 0) → Type 0

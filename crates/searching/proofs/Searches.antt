@@ -106,27 +106,10 @@ module _ {m : ℕ} {R : ℕ → ℕ → Type 0} {dead : ℕ → ℕ} {t : Tables
 
       -- the new item was not in the queue: the one behind it was not seen
       fresh : (p : ℕ) → p < tail → t.queue p ≡ t'.queue tail → ⊥
-      fresh p h e = ⊎_elim (λ z. omega (arith, f, z.1)) seen (s.opened p h)
-        where
-          f : t.next (t.queue p) ≡ b + 1
-          f = rw e behind
-
-          seen : (c : ℕ) × (c < m) × (t.next (t.queue p) ≡ c + 1) × (t.seen c ≡ 1) × (dead c ≢ 1) × (t.via c ≤ p) → ⊥
-          seen (c, cl, g, sc, n, v) =
-              let same : c ≡ b = omega (arith, f) in
-              let h : t.seen b ≡ 1 = rw same at sc in
-              omega arith
+      fresh p h e = grind (arith, common_steps)
 
       queued : (p : ℕ) → p < tail + 1 → t'.queue p < m
-      queued p h = go (ℕ_discrete p tail)
-        where
-          go : Dec (p ≡ tail) → t'.queue p < m
-          go (yes e) = rw e low
-          go (no ne) =
-              let l : p < tail = omega arith in
-              let e = w.queue_same p l in
-              let q = s.queued p l in
-              omega arith
+      queued p h = grind (arith, common_steps)
 
       different : (p q : ℕ) → p < tail + 1 → q < tail + 1 → t'.queue p ≡ t'.queue q → p ≡ q
       different p q pl ql e = go (ℕ_discrete p tail) (ℕ_discrete q tail)
@@ -262,10 +245,7 @@ module _ {m : ℕ} {R : ℕ → ℕ → Type 0} {dead : ℕ → ℕ} {t : Tables
       k' = saw_matching k w
 
       none : (a c : ℕ) → c ≡ b → t'.prev c ≡ a + 1 → ⊥
-      none a c e f =
-          let g : t'.prev b ≡ a + 1 = rw e at f in
-          let h = w.prev_same b bl in
-          omega arith
+      none a c e f = grind (arith, common_steps)
 
       earlier : (p c : ℕ) → p < tail → c < m → t'.next (t'.queue p) ≡ c + 1 → (dead c ≢ 1) × SeenFrom R t' p c
       earlier p c pl cl h = ⊎_elim (λ z. let bad : ⊥ = omega (arith, e, z.1) in absurd bad) go (s.opened p pl)
@@ -286,8 +266,4 @@ module _ {m : ℕ} {R : ℕ → ℕ → Type 0} {dead : ℕ → ℕ} {t : Tables
               (nc, (q, omega arith, omega arith, rw (w.queue_same q ql) j))
 
       last : (p : ℕ) → p < tail → t'.next (t'.queue p) ≡ 0 → p ≡ 0
-      last p pl h =
-          let f = w.queue_same p pl in
-          let g = w.next_same (t.queue p) (s.queued p pl) in
-          let e : t.next (t.queue p) ≡ 0 = cc in
-          ⊎_elim (λ z. z.0) (λ (c, cl, i, sc, n, v). let bad : ⊥ = omega arith in absurd bad) (s.opened p pl)
+      last p pl h = grind (arith, common_steps)

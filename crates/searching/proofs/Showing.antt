@@ -10,7 +10,7 @@ use Rattle.bits.specs.Work.{next_at, via_at, seen_at, dead_at, Outside}
 use Rattle.searching.specs.Items.{Tables, SameChains, Matching, Searching, Saw, Flipped}
 use Rattle.searching.specs.State.{tables, deads, Pairs, Sized, SawIn, ShownIn}
 use Rattle.bits.proofs.Frames.{outside_then}
-use Rattle.searching.proofs.Frames.{pairs_kept, pairs_were, next_before, prev_before}
+use Rattle.searching.proofs.Frames.{pairs_kept, pairs_were}
 use Rattle.searching.proofs.Relations.{Within}
 use Rattle.searching.proofs.Searches.{matching_same, saw_matching, saw_searching, item_done, found}
 
