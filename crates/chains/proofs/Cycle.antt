@@ -1,5 +1,6 @@
 -- A loop of a graph from a search: where each episode but `v` stands behind itself, a search that finds nothing shows that `v` has no
 -- way to itself, and one that makes a chain fewer leaves a loop through `v`.
+use Rattle.std.proofs.lemmas.Grind.{common_steps}
 use mathlib.Core.Path.{◌≡◌, refl, sym, subst}
 use mathlib.Core.Logic.{◌⊎◌, inl, inr, ⊎_elim, ◌≢◌}
 use mathlib.Core.List.Memᴰ
@@ -32,43 +33,7 @@ use Rattle.searching.specs.Items.{Tables, SameChains, Matching, Spent, Dead, Shr
 use Rattle.chains.specs.Cycles.{Selves, Walking}
 
 pub selves_matching : {m v : ℕ} {t : Tables} → Selves m t v → Matching m t
-selves_matching {m} {v} {t} s =
-    record {
-      next_le = λ a al. next_le a al (ℕ_discrete a v);
-      prev_le = λ b bl. prev_le b bl (ℕ_discrete b v);
-      there = λ a b al bl h. forth a b al bl h (ℕ_discrete a v);
-      back = λ a b al bl h. back a b al bl h (ℕ_discrete b v);
-    }
-  where
-    next_le : (a : ℕ) → a < m → Dec (a ≡ v) → t.next a ≤ m
-    next_le a al (yes e) = let h = s.next_end in rw e (omega arith)
-    next_le a al (no ne) = let h = s.next_self a al ne in omega arith
-
-    prev_le : (b : ℕ) → b < m → Dec (b ≡ v) → t.prev b ≤ m
-    prev_le b bl (yes e) = let h = s.prev_end in rw e (omega arith)
-    prev_le b bl (no ne) = let h = s.prev_self b bl ne in omega arith
-
-    forth : (a b : ℕ) → a < m → b < m → t.next a ≡ b + 1 → Dec (a ≡ v) → t.prev b ≡ a + 1
-    forth a b al bl h (yes e) =
-        let f = s.next_end in
-        let g : t.next v ≡ b + 1 = rw e at h in
-        let bad : ⊥ = omega arith in
-        absurd bad
-    forth a b al bl h (no ne) =
-        let f = s.next_self a al ne in
-        let e : b ≡ a = omega arith in
-        rw e (s.prev_self a al ne)
-
-    back : (a b : ℕ) → a < m → b < m → t.prev b ≡ a + 1 → Dec (b ≡ v) → t.next a ≡ b + 1
-    back a b al bl h (yes e) =
-        let f = s.prev_end in
-        let g : t.prev v ≡ a + 1 = rw e at h in
-        let bad : ⊥ = omega arith in
-        absurd bad
-    back a b al bl h (no ne) =
-        let f = s.prev_self b bl ne in
-        let e : a ≡ b = omega arith in
-        rw e (s.next_self b bl ne)
+selves_matching {m} {v} {t} s = grind (arith, common_steps)
 
 module _ {g : Graph} {t t' : Tables} {dead : ℕ → ℕ} {v : ℕ} (ends : EndsBelow g) (s : Selves g.n t v) where
   -- a search that finds nothing shows that `v` has no way to itself
@@ -97,20 +62,7 @@ module _ {g : Graph} {t t' : Tables} {dead : ℕ → ℕ} {v : ℕ} (ends : Ends
 
 -- after a shrink each item has one behind it
 pub shrunk_next : {m v : ℕ} {R : ℕ → ℕ → Type 0} {t t' : Tables} → Selves m t v → Shrunk m R t t' → (x : ℕ) → x < m → 0 < t'.next x
-shrunk_next {m} {v} {R} {t} {t'} s k x xl = go (ℕ_discrete x v) (ℕ_discrete (t'.next x) 0)
-  where
-    go : Dec (x ≡ v) → Dec (t'.next x ≡ 0) → 0 < t'.next x
-    go d (no ne) = omega arith
-    go (no nv) (yes e) =
-        let h = s.next_self x xl nv in
-        let i = k.ends x xl e in
-        let bad : ⊥ = omega arith in
-        absurd bad
-    go (yes f) (yes e) = let (a, al, h, p) = k.fewer in last a al h p (ℕ_discrete a v)
-      where
-        last : (a : ℕ) → a < m → t.next a ≡ 0 → 0 < t'.next a → Dec (a ≡ v) → 0 < t'.next x
-        last a al h p (yes i) = let j : x ≡ a = omega arith in rw j p
-        last a al h p (no ni) = let j = s.next_self a al ni in let bad : ⊥ = omega arith in absurd bad
+shrunk_next {m} {v} {R} {t} {t'} s k x xl = grind (arith, common_steps)
 
 -- what follows on a chain has one before it there
 chain_prior : {S : ℕ → ℕ → Type 0} {y : ℕ} (a : ℕ) (p : List ℕ) (x : ℕ) → Chain S (a ∷ p ++ x ∷ []) → Mem y (p ++ x ∷ [])

@@ -1,4 +1,5 @@
 -- Going back along a search's trail: each item on it gets another one behind it, and in the end there is one chain fewer.
+use Rattle.std.proofs.lemmas.Grind.{common_steps}
 use mathlib.Core.Path.{◌≡◌}
 use mathlib.Core.Logic.{◌⊎◌, inl, inr, ◌≢◌}
 use Prim.Native.Nat.{ℕ, ◌+◌, ◌≤◌, ◌<◌}
@@ -20,27 +21,15 @@ module _ {m : ℕ} {R : ℕ → ℕ → Type 0} {dead : ℕ → ℕ} {t₀ t : T
     low = l.queued p (seen_from f v).0
 
     next_low : (x : ℕ) → x < m → t'.next x ≤ m
-    next_low x xl = go (ℕ_discrete x (t₀.queue p))
-      where
-        go : Dec (x ≡ t₀.queue p) → t'.next x ≤ m
-        go (yes e) = let h = w.next_here in let i = f.below in rw e (omega arith)
-        go (no ne) = let h = w.next_other x xl ne in let i = f.next_le x xl in omega arith
+    next_low x xl = grind (arith, common_steps)
 
     prev_low : (y : ℕ) → y < m → t'.prev y ≤ m
-    prev_low y yl = go (ℕ_discrete y b)
-      where
-        go : Dec (y ≡ b) → t'.prev y ≤ m
-        go (yes e) = let h = w.prev_here in rw e (omega (arith, low))
-        go (no ne) = let h = w.prev_other y yl ne in let i = f.prev_le y yl in omega arith
+    prev_low y yl = grind (arith, common_steps)
 
     -- a pair of the new chains is the new one or one of the old
     pair : (x y : ℕ) → x < m → y < m → t'.next x ≡ y + 1
         → ((x ≡ t₀.queue p) × (y ≡ b)) ⊎ ((x ≢ t₀.queue p) × (t.next x ≡ y + 1))
-    pair x y xl yl h = go (ℕ_discrete x (t₀.queue p))
-      where
-        go : Dec (x ≡ t₀.queue p) → ((x ≡ t₀.queue p) × (y ≡ b)) ⊎ ((x ≢ t₀.queue p) × (t.next x ≡ y + 1))
-        go (yes e) = let i : t'.next (t₀.queue p) ≡ y + 1 = rw e at h in let j = w.next_here in inl (e, omega arith)
-        go (no ne) = let i = w.next_other x xl ne in inr (ne, omega arith)
+    pair x y xl yl h = grind (arith, common_steps)
 
     there' : (x y : ℕ) → x < m → y < m → t'.next x ≡ y + 1 → t'.prev y ≡ x + 1
     there' x y xl yl h = go (pair x y xl yl h)
@@ -51,51 +40,20 @@ module _ {m : ℕ} {R : ℕ → ℕ → Type 0} {dead : ℕ → ℕ} {t₀ t : T
 
     -- where what stood behind the item is not `y`
     back' : (x y : ℕ) → x < m → y < m → t.next (t₀.queue p) ≢ y + 1 → t'.prev y ≡ x + 1 → t'.next x ≡ y + 1
-    back' x y xl yl ny h = go (ℕ_discrete y b)
-      where
-        go : Dec (y ≡ b) → t'.next x ≡ y + 1
-        go (yes e) =
-            let i : t'.prev b ≡ x + 1 = rw e at h in
-            let j = w.prev_here in
-            let g : x ≡ t₀.queue p = omega arith in
-            rw (g, e) w.next_here
-        go (no ne) =
-            let i = w.prev_other y yl ne in
-            let j : t.next x ≡ y + 1 = f.back x y xl yl ne (omega arith) in
-            let n = w.next_other x xl (λ g. ny (rw g at j)) in
-            omega arith
+    back' x y xl yl ny h = grind (arith, common_steps)
 
     pairs' : (x y : ℕ) → x < m → y < m → t'.next x ≡ y + 1 → (t₀.next x ≡ y + 1) ⊎ R x y
-    pairs' x y xl yl h = go (pair x y xl yl h)
-      where
-        go : ((x ≡ t₀.queue p) × (y ≡ b)) ⊎ ((x ≢ t₀.queue p) × (t.next x ≡ y + 1)) → (t₀.next x ≡ y + 1) ⊎ R x y
-        go (inl (e, i)) = inr (rw (e, i) (seen_from f v).1)
-        go (inr (ne, i)) = f.pairs x y xl yl i
+    pairs' x y xl yl h = grind (arith, common_steps)
 
     ends' : (x : ℕ) → x < m → t'.next x ≡ 0 → t₀.next x ≡ 0
-    ends' x xl h = go (ℕ_discrete x (t₀.queue p))
-      where
-        go : Dec (x ≡ t₀.queue p) → t₀.next x ≡ 0
-        go (yes e) = let i : t'.next (t₀.queue p) ≡ 0 = rw e at h in let j = w.next_here in let bad : ⊥ = omega arith in absurd bad
-        go (no ne) = let i = w.next_other x xl ne in f.ends x xl (omega arith)
+    ends' x xl h = grind (arith, common_steps)
 
     dead_prev' : (c : ℕ) → c < m → dead c ≡ 1 → t'.prev c ≡ t₀.prev c
-    dead_prev' c cl d =
-        let n : c ≢ b = λ e. f.new (rw e at d) in
-        let h = w.prev_other c cl n in
-        let i = f.dead_prev c cl d in
-        omega arith
+    dead_prev' c cl d = grind (arith, common_steps)
 
     -- only the item at place 0 ends a chain, so each other item that does is left
     others' : (x : ℕ) → x < m → x ≢ t₀.queue 0 → t₀.next x ≡ 0 → t'.next x ≡ 0
-    others' x xl n h = go (ℕ_discrete x (t₀.queue p))
-      where
-        go : Dec (x ≡ t₀.queue p) → t'.next x ≡ 0
-        go (yes e) =
-            let i : t₀.next (t₀.queue p) ≡ 0 = rw e at h in
-            let z : p ≡ 0 = l.last p (seen_from f v).0 i in
-            absurd (n (rw z at e))
-        go (no ne) = let i = w.next_other x xl ne in let j = f.others x xl n h in omega arith
+    others' x xl n h = grind (arith, common_steps)
 
     -- one step back
     pub flip_on : {c : ℕ} → t.next (t₀.queue p) ≡ c + 1 → Flipping m R dead t₀ t' tail c × (t₀.via c < t₀.via b)

@@ -1,4 +1,5 @@
 -- Pairs from single items: each item gets the first that it has and that stands behind none yet.
+use Rattle.std.proofs.lemmas.Grind.{common_steps}
 use mathlib.Core.Path.{◌≡◌, ◌∙◌}
 use mathlib.Core.Logic.{◌≢◌, inl, ⊎_elim}
 use mathlib.Core.List.{List}
@@ -20,58 +21,7 @@ module _ {m : ℕ} {R : ℕ → ℕ → Type 0} {t : Tables} {a : ℕ} (s : Pair
   -- `a` gets `b`: what a search would do that has `a` alone in its queue
   pairing_more : {t' : Tables} (b : ℕ) → a < m → b < m → R a b → t.seen b ≡ 0 → Flipped m t t' a b → t'.seen b ≡ 1
       → ((c : ℕ) → c < m → c ≢ b → t'.seen c ≡ t.seen c) → Pairing m R t' (a + 1)
-  pairing_more {t'} b al bl r unseen w here other =
-      record {
-        matching = shrunk.matching;
-        pairs = λ x y xl yl h. ⊎_elim (s.pairs x y xl yl) (λ q. q) (shrunk.pairs x y xl yl h);
-        next_none = λ x h xl. w.next_other x xl (λ e. absurd (omega arith)) ∙ s.next_none x (omega arith) xl;
-        prev_none = λ y yl h. none y yl h (ℕ_discrete y b);
-      }
-    where
-      first : t.prev b ≡ 0
-      first = s.prev_none b bl unseen
-
-      last : t.next a ≡ 0
-      last = s.next_none a (omega arith) al
-
-      t₀ : Tables
-      t₀ = record { next = t.next; prev = t.prev; via = λ c. 1; queue = λ p. a; seen = t.seen }
-
-      trail : Trail m R (λ c. 0) t₀ 1
-      trail =
-          record {
-            queued = λ p h. al;
-            different = λ p q h k e. omega arith;
-            earlier = λ p c h cl e. absurd (omega (arith, last));
-            last = λ p h e. omega arith;
-          }
-
-      flipping : Flipping m R (λ c. 0) t₀ t₀ 1 b
-      flipping =
-          record {
-            below = bl;
-            new = λ e. omega arith;
-            from = (0, omega arith, omega arith, r);
-            next_le = s.matching.next_le;
-            prev_le = s.matching.prev_le;
-            there = λ x c xl cl h. let e = s.matching.there x c xl cl h in (λ f. let g : t.prev b ≡ x + 1 = rw f at e in omega (arith, first), e);
-            back = λ x c xl cl ne h. s.matching.back x c xl cl h;
-            pairs = λ x c xl cl h. inl h;
-            ends = λ x xl h. h;
-            dead_prev = λ c cl e. absurd (omega arith);
-            others = λ x xl ne h. h;
-            untouched = λ q h. omega arith;
-          }
-
-      flipped : Flipped m t₀ t' a b
-      flipped = record { next_here = w.next_here; next_other = w.next_other; prev_here = w.prev_here; prev_other = w.prev_other }
-
-      shrunk : Shrunk m R t₀ t'
-      shrunk = (flip_end 0 trail flipping (omega arith) flipped last).shrunk
-
-      none : (y : ℕ) → y < m → t'.seen y ≡ 0 → Dec (y ≡ b) → t'.prev y ≡ 0
-      none y yl h (yes e) = let i : t'.seen b ≡ 0 = rw e at h in absurd (omega arith)
-      none y yl h (no ne) = w.prev_other y yl ne ∙ s.prev_none y yl (omega (arith, other y yl ne))
+  pairing_more {t'} b al bl r unseen w here other = grind (arith, common_steps)
 
 -- ---- one item
 
