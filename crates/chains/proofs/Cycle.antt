@@ -29,11 +29,8 @@ use Rattle.paths.specs.Graph.{Graph, Episode, Link, EndsBelow, Way, one, step, L
 use Rattle.paths.proofs.Ways.{way_trans}
 use Rattle.paths.proofs.Numbers.{nodup_below}
 use Rattle.paths.proofs.Loops.{walk_way}
-use Rattle.searching.specs.Items.{Tables, SameChains, Matching, Spent, Dead, Shrunk}
+use Rattle.searching.specs.Items.{Tables, SameChains, Spent, Dead, Shrunk}
 use Rattle.chains.specs.Cycles.{Selves, Walking}
-
-pub selves_matching : {m v : ℕ} {t : Tables} → Selves m t v → Matching m t
-selves_matching {m} {v} {t} s = grind (arith, common_steps)
 
 module _ {g : Graph} {t t' : Tables} {dead : ℕ → ℕ} {v : ℕ} (ends : EndsBelow g) (s : Selves g.n t v) where
   -- a search that finds nothing shows that `v` has no way to itself
@@ -45,14 +42,7 @@ module _ {g : Graph} {t t' : Tables} {dead : ℕ → ℕ} {v : ℕ} (ends : Ends
       omega arith
     where
       spent_again : (a : ℕ) → a < g.n → dead a ≡ 1 → Spent g.n t' dead (v + 1) a
-      spent_again a al h =
-          let k = x.kept a al h in
-          let e = same.prev_same a al in
-          let f = s.prev_end in
-          let ne : a ≢ v = λ i. let j : 0 < t.prev v = subst (λ (y : ℕ). 0 < t.prev y) i (omega arith) in omega arith in
-          let i = same.next_same a al in
-          let j = s.next_self a al ne in
-          inr (a, al, omega arith, h)
+      spent_again a al h = grind (arith, common_steps)
 
       reach : {a b : ℕ} → Way g a b → Spent g.n t' dead (v + 1) a → dead b ≡ 1
       reach (one {a = a} {b = b} l) o = let (al, bl) = ends a b l in x.closed a b al bl o l
@@ -62,7 +52,7 @@ module _ {g : Graph} {t t' : Tables} {dead : ℕ → ℕ} {v : ℕ} (ends : Ends
 
 -- after a shrink each item has one behind it
 pub shrunk_next : {m v : ℕ} {R : ℕ → ℕ → Type 0} {t t' : Tables} → Selves m t v → Shrunk m R t t' → (x : ℕ) → x < m → 0 < t'.next x
-shrunk_next {m} {v} {R} {t} {t'} s k x xl = grind (arith, common_steps)
+shrunk_next s k x xl = grind (arith, common_steps)
 
 -- what follows on a chain has one before it there
 chain_prior : {S : ℕ → ℕ → Type 0} {y : ℕ} (a : ℕ) (p : List ℕ) (x : ℕ) → Chain S (a ∷ p ++ x ∷ []) → Mem y (p ++ x ∷ [])

@@ -1,5 +1,6 @@
 -- A search from one item: one chain fewer, going back over the items that it has seen, from the one with none before it; or what it has
 -- seen is dead.
+use Rattle.std.proofs.lemmas.Grind.{common_steps}
 use Rattle.std.specs.Prelude.{Option, Some, None}
 use mathlib.Core.Path.{◌≡◌, refl, sym, ap, subst, ◌∙◌}
 use mathlib.Core.Logic.{inl, inr}
@@ -15,7 +16,7 @@ use Rattle.searching.specs.State.{tables, figure, deads, Pairs, Extendable, Sear
 use Rattle.chains.specs.Joined.{ExtendedIn}
 use Rattle.searching.proofs.Deads.{dead_moved, dead_skip, dead_kept}
 use Rattle.chains.proofs.Flips.{flip_on, flip_end}
-use Rattle.searching.proofs.Frames.{via_behind, queue_behind, dead_behind}
+use Rattle.searching.proofs.Frames.{via_behind, dead_behind}
 use Rattle.searching.proofs.Marks.{copied_outside}
 use Rattle.searching.proofs.Relations.{chains_none, trail_within, flipping_within, shrunk_within, shrunk_from, shrunk_to}
 use Rattle.searching.proofs.Showing.{flipped_fewer, matching_kept, same_chains, forth, back}
@@ -47,9 +48,7 @@ module _ (w₁ w : List ℕ) (base m tail : ℕ) (item : Option ℕ) (b : ℕ) (
   via = via_behind s.outside (omega arith) b ∙ f.from.2
 
   place : (tables w).queue ((tables w).via b - 1) ≡ (tables w₁).queue p
-  place =
-      let q : (tables w).via b - 1 ≡ p = omega (arith, via) in
-      ap (λ (x : ℕ). (tables w).queue x) q ∙ queue_behind s.outside (omega arith) p
+  place = grind (arith, common_steps)
 
   pub flip_asked : FlipAsked w b
   flip_asked =

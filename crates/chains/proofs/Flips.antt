@@ -3,7 +3,6 @@ use Rattle.std.proofs.lemmas.Grind.{common_steps}
 use mathlib.Core.Path.{◌≡◌}
 use mathlib.Core.Logic.{◌⊎◌, inl, inr, ◌≢◌}
 use Prim.Native.Nat.{ℕ, ◌+◌, ◌≤◌, ◌<◌}
-use native.Mathlib.Decide.{ℕ_discrete}
 use native.Mathlib.Omega.{arith}
 use Rattle.searching.specs.Items.{Tables, SeenFrom, Trail, Extended, Flipping, Flipped}
 
@@ -94,12 +93,7 @@ module _ {m : ℕ} {R : ℕ → ℕ → Type 0} {dead : ℕ → ℕ} {t₀ t : T
         )
           where
             untouched' : (o : ℕ) → o < p → t'.next (t₀.queue o) ≡ t₀.next (t₀.queue o)
-            untouched' o ol =
-                let pl = (seen_from f v).0 in
-                let i = f.untouched o (omega arith) in
-                let ne : t₀.queue o ≢ t₀.queue p = λ e. let j = l.different o p (omega arith) pl e in omega arith in
-                let j = w.next_other (t₀.queue o) (l.queued o (omega arith)) ne in
-                omega arith
+            untouched' o ol = grind (arith, common_steps)
 
     -- the last step
     pub flip_end : t.next (t₀.queue p) ≡ 0 → Extended m R dead t₀ t' (t₀.queue 0)

@@ -1,19 +1,16 @@
 -- Pairs from single items: each item gets the first that it has and that stands behind none yet.
 use Rattle.std.proofs.lemmas.Grind.{common_steps}
 use mathlib.Core.Path.{◌≡◌, ◌∙◌}
-use mathlib.Core.Logic.{◌≢◌, inl, ⊎_elim}
+use mathlib.Core.Logic.{◌≢◌}
 use mathlib.Core.List.{List}
 use Prim.Native.Nat.{ℕ, ◌+◌, ◌*◌, ◌<◌}
-use native.Mathlib.Decide.{ℕ_discrete}
 use native.Mathlib.Omega.{arith}
 use Rattle.bits.specs.Bits.{BitSet, NextNew}
 use Rattle.bits.specs.Work.{seen_at, Outside, none_at}
 use Rattle.bits.proofs.Frames.{outside_then, outside_wider, bit_behind}
-use Rattle.searching.specs.Items.{Tables, Pairing, Trail, Flipping, Flipped, Shrunk}
+use Rattle.searching.specs.Items.{Tables, Pairing, Flipped}
 use Rattle.searching.specs.State.{tables, Pairs, Sized, PutIn}
 use Rattle.chains.specs.Joined.{PairedIn}
-use Rattle.chains.proofs.Flips.{flip_end}
-use Rattle.searching.proofs.Frames.{next_before, prev_before}
 use Rattle.searching.proofs.Relations.{pairing_within}
 use Rattle.searching.proofs.Showing.{sized_kept, forth, back}
 
@@ -21,7 +18,7 @@ module _ {m : ℕ} {R : ℕ → ℕ → Type 0} {t : Tables} {a : ℕ} (s : Pair
   -- `a` gets `b`: what a search would do that has `a` alone in its queue
   pairing_more : {t' : Tables} (b : ℕ) → a < m → b < m → R a b → t.seen b ≡ 0 → Flipped m t t' a b → t'.seen b ≡ 1
       → ((c : ℕ) → c < m → c ≢ b → t'.seen c ≡ t.seen c) → Pairing m R t' (a + 1)
-  pairing_more {t'} b al bl r unseen w here other = grind (arith, common_steps)
+  pairing_more b al bl r unseen w here other = grind (arith, common_steps)
 
 -- ---- one item
 
@@ -42,12 +39,7 @@ module _ (w : List ℕ) (base m a : ℕ) (s : Pairing m (Pairs base w) (tables w
       new = n.new (omega arith)
 
       marked : Outside seen_at none_at w w₁
-      marked =
-          record {
-            same_length = k.same_length;
-            before = λ i h. k.words i (λ e. absurd (omega arith));
-            behind = λ i h. k.words i (λ e. absurd (omega arith));
-          }
+      marked = grind (arith, common_steps)
 
       same : (c : ℕ) → (tables w₂).seen c ≡ (tables w₁).seen c
       same c = bit_behind p.outside seen_at c (omega arith)
@@ -56,13 +48,7 @@ module _ (w : List ℕ) (base m a : ℕ) (s : Pairing m (Pairs base w) (tables w
       wide = p.flipped
 
       flipped : Flipped m (tables w) (tables w₂) a b
-      flipped =
-          record {
-            next_here = wide.next_here;
-            next_other = λ c cl ne. wide.next_other c (omega arith) ne ∙ next_before marked (omega arith) c (omega arith);
-            prev_here = wide.prev_here;
-            prev_other = λ c cl ne. wide.prev_other c (omega arith) ne ∙ prev_before marked (omega arith) c (omega arith);
-          }
+      flipped = grind (arith, common_steps)
 
 -- ---- the pass; `e` are the words at first
 

@@ -49,10 +49,6 @@ dead_moved {m} {k} {t = t} {t' = t'} {dead = dead} {dead' = dead'} to back s d x
     spent a al h = grind (arith, common_steps)
 
 module _ {m : ℕ} {R : ℕ → ℕ → Type 0} {t : Tables} {dead : ℕ → ℕ} where
-  -- at first, where no item below `k` ends a chain
-  pub dead_none : {k : ℕ} → ((b : ℕ) → b < m → dead b ≡ 0) → ((a : ℕ) → a < m → a < k → 0 < t.next a) → Dead m R t dead k
-  dead_none z some = grind (arith, common_steps)
-
   -- what can be reached from the items searched from is dead
   reached_dead : {k b : ℕ} → Dead m R t dead k → Reached m (Before k t.next R) t.next b → dead b ≡ 1
   reached_dead x (from_end {a = a} {b = b} al bl e (h, r)) = x.closed a b al bl (inl (h e, e)) r

@@ -3,7 +3,7 @@ use mathlib.Core.Path.{◌≡◌, sym, ◌∙◌}
 use mathlib.Core.List.{List}
 use Prim.Native.Nat.{ℕ, ◌+◌, ◌*◌, ◌≤◌, ◌<◌}
 use native.Mathlib.Omega.{arith}
-use Rattle.bits.specs.Work.{next_at, prev_at, via_at, queue_at, dead_at, Outside, matrix_words}
+use Rattle.bits.specs.Work.{next_at, prev_at, via_at, dead_at, Outside, matrix_words}
 use Rattle.bits.proofs.Frames.{bit_before, bit_behind}
 use Rattle.searching.specs.State.{tables, deads, Pairs}
 
@@ -29,6 +29,3 @@ module _ {lo hi : ℕ} {w w' : List ℕ} (o : Outside lo hi w w') where
   -- the tables behind what is written
   pub via_behind : hi ≤ via_at → (b : ℕ) → (tables w').via b ≡ (tables w).via b
   via_behind h b = o.behind (via_at + b) (omega arith)
-
-  pub queue_behind : hi ≤ via_at → (p : ℕ) → (tables w').queue p ≡ (tables w).queue p
-  queue_behind h p = o.behind (queue_at + p) (omega arith)

@@ -48,11 +48,8 @@ module _ {m : ℕ} {R R' : ℕ → ℕ → Type 0} (to : Within m R R') where
     new_within : {b : ℕ} → b < m → dead b ≢ 1 → dead' b ≢ 1
     new_within {b} bl n d = n (omega (arith, same b bl))
 
-    new_was : {b : ℕ} → b < m → dead' b ≢ 1 → dead b ≢ 1
-    new_was {b} bl n d = n (omega (arith, same b bl))
-
     pub searching_within : {t : Tables} {head tail : ℕ} → Within m R' R → Searching m R dead t head 0 tail → Searching m R' dead' t head 0 tail
-    searching_within {t} {head} {tail} back s = grind (arith, common_steps)
+    searching_within back s = grind (arith, common_steps)
 
     pub trail_within : {t : Tables} {tail : ℕ} → Trail m R dead t tail → Trail m R' dead' t tail
     trail_within {t} {tail} l =
@@ -68,7 +65,7 @@ module _ {m : ℕ} {R R' : ℕ → ℕ → Type 0} (to : Within m R R') where
 
     pub flipping_within : {t₀ t : Tables} {tail b : ℕ} → Trail m R dead t₀ tail → Flipping m R dead t₀ t tail b
         → Flipping m R' dead' t₀ t tail b
-    flipping_within {t₀} l f = grind (arith, common_steps)
+    flipping_within l f = grind (arith, common_steps)
 
   pub shrunk_within : {t t' : Tables} → Shrunk m R t t' → Shrunk m R' t t'
   shrunk_within k = grind (arith, common_steps)
@@ -82,8 +79,8 @@ links_then f g =
 
 -- one chain fewer than in tables with the same chains
 pub shrunk_from : {m : ℕ} {R : ℕ → ℕ → Type 0} {t t₀ t' : Tables} → SameChains m t t₀ → Shrunk m R t₀ t' → Shrunk m R t t'
-shrunk_from {m} {R} {t} {t₀} {t'} s k = grind (arith, common_steps)
+shrunk_from s k = grind (arith, common_steps)
 
 -- and of other tables with the new chains
 pub shrunk_to : {m : ℕ} {R : ℕ → ℕ → Type 0} {t t' t'' : Tables} → SameChains m t' t'' → Shrunk m R t t' → Shrunk m R t t''
-shrunk_to {m} {R} {t} {t'} {t''} s k = grind (arith, common_steps)
+shrunk_to s k = grind (arith, common_steps)

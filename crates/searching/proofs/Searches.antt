@@ -76,7 +76,7 @@ saw_matching k w = matching_same k (saw_same w)
 -- before a search from `a`: only what is dead is seen
 pub search_start : {m : ℕ} {R : ℕ → ℕ → Type 0} {dead : ℕ → ℕ} {t : Tables} (a : ℕ) → a < m → t.next a ≡ 0 → t.queue 0 ≡ a
     → ((b : ℕ) → b < m → t.seen b ≡ dead b) → ((b : ℕ) → b < m → dead b ≡ 1 → 0 < t.prev b) → Searching m R dead t 0 0 1
-search_start {m} {R} {dead} {t} a al z q same kept = grind (arith, common_steps)
+search_start a al z q same kept = grind (arith, common_steps)
 
 module _ {m : ℕ} {R : ℕ → ℕ → Type 0} {dead : ℕ → ℕ} {t : Tables} {head from tail : ℕ} where
   -- an item that the search comes upon, with an item before it
