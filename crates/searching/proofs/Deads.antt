@@ -59,15 +59,13 @@ module _ {m : ℕ} {R : ℕ → ℕ → Type 0} {t : Tables} {dead : ℕ → ℕ
     pub dead_skip : 0 < t.next a → Dead m R t dead (a + 1)
     dead_skip pos =
         record {
-          closed = λ y b yl bl h r. x.closed y b yl bl (spent y h (ℕ_discrete y a)) r;
+          closed = λ y b yl bl h r. x.closed y b yl bl (spent y h) r;
           kept = x.kept;
           sound = λ b bl h. reached_more (omega arith) (x.sound b bl h);
         }
       where
-        spent : (y : ℕ) → Spent m t dead (a + 1) y → Dec (y ≡ a) → Spent m t dead a y
-        spent y (inl (l, e)) (yes i) = let j : t.next a ≡ 0 = rw i at e in let bad : ⊥ = omega arith in absurd bad
-        spent y (inl (l, e)) (no n) = inl (omega arith, e)
-        spent y (inr h) d = inr h
+        spent : (y : ℕ) → Spent m t dead (a + 1) y → Spent m t dead a y
+        spent y h = grind (arith, common_steps)
 
     -- a search from `a` in vain
     pub dead_more : {tail : ℕ} → Searching m R dead t tail 0 tail → 0 < tail → t.queue 0 ≡ a → Dead m R t t.seen (a + 1)
@@ -75,7 +73,7 @@ module _ {m : ℕ} {R : ℕ → ℕ → Type 0} {t : Tables} {dead : ℕ → ℕ
         record {
           closed =
               λ y b yl bl h r.
-              ⊎_elim (λ (l, e). end y b yl bl l e r (ℕ_discrete y a)) (λ (c, cl, e, sc). next y b c yl bl cl e sc r (ℕ_discrete (dead c) 1)) h;
+              ⊎_elim (λ (l, e). end y b yl bl l e r (ℕ_discrete y a)) (λ (c, cl, e, sc). next y b c yl bl cl e sc r) h;
           kept = s.kept;
           sound = λ b bl h. sound b bl h (ℕ_discrete (dead b) 1);
         }
@@ -84,11 +82,8 @@ module _ {m : ℕ} {R : ℕ → ℕ → Type 0} {t : Tables} {dead : ℕ → ℕ
         end y b yl bl l e r (yes i) = s.shown 0 b pos bl (subst (λ (z : ℕ). R z b) (i ∙ sym q) r)
         end y b yl bl l e r (no n) = s.old b bl (x.closed y b yl bl (inl (omega arith, e)) r)
 
-        next : (y b c : ℕ) → y < m → b < m → c < m → t.next y ≡ c + 1 → t.seen c ≡ 1 → R y b → Dec (dead c ≡ 1) → t.seen b ≡ 1
-        next y b c yl bl cl e sc r (yes d) = s.old b bl (x.closed y b yl bl (inr (c, cl, e, d)) r)
-        next y b c yl bl cl e sc r (no n) =
-            let (p, pl, i) = s.all_open y c yl cl e sc n in
-            s.shown p b pl bl (subst (λ (z : ℕ). R z b) (sym i) r)
+        next : (y b c : ℕ) → y < m → b < m → c < m → t.next y ≡ c + 1 → t.seen c ≡ 1 → R y b → t.seen b ≡ 1
+        next y b c yl bl cl e sc r = grind (arith, common_steps)
 
         new : (k b : ℕ) → b < m → t.seen b ≡ 1 → dead b ≢ 1 → t.via b < k → Reached m (Before (a + 1) t.next R) t.next b
         new zero b bl h n l = absurd (omega arith)
@@ -109,20 +104,13 @@ module _ {m : ℕ} {R : ℕ → ℕ → Type 0} {t : Tables} {dead : ℕ → ℕ
     pub dead_kept : {t' : Tables} → Matching m t → Extended m R dead t t' a → Dead m R t' dead (a + 1)
     dead_kept {t'} k f =
         record {
-          closed = λ y b yl bl h r. x.closed y b yl bl (spent y yl h (ℕ_discrete y a)) r;
+          closed = λ y b yl bl h r. x.closed y b yl bl (spent y yl h) r;
           kept = λ b bl h. omega (arith, f.dead_prev b bl h, x.kept b bl h);
           sound = λ b bl h. moved (x.sound b bl h);
         }
       where
-        spent : (y : ℕ) → y < m → Spent m t' dead (a + 1) y → Dec (y ≡ a) → Spent m t dead a y
-        spent y yl (inl (l, e)) (yes i) =
-            let j : t'.next a ≡ 0 = rw i at e in
-            let bad : ⊥ = omega (arith, f.joined) in
-            absurd bad
-        spent y yl (inl (l, e)) (no n) = inl (omega arith, f.shrunk.ends y yl e)
-        spent y yl (inr (c, cl, e, d)) i =
-            let j = f.shrunk.matching.there y c yl cl e in
-            inr (c, cl, k.back y c yl cl (omega (arith, f.dead_prev c cl d)), d)
+        spent : (y : ℕ) → y < m → Spent m t' dead (a + 1) y → Spent m t dead a y
+        spent y yl h = grind (arith, common_steps)
 
         pair : (y c : ℕ) → y < m → c < m → t.next y ≡ c + 1 → dead c ≡ 1 → t'.next y ≡ c + 1
         pair y c yl cl e d = grind (arith, common_steps)

@@ -92,10 +92,10 @@ module _ {m : ℕ} {R : ℕ → ℕ → Type 0} {dead : ℕ → ℕ} {t : Tables
         opened = λ p h. opened p h (ℕ_discrete p tail);
         all_open = λ a c al cl g sc n. all_open a c al cl g sc n (ℕ_discrete c b);
         old = λ c cl h. stays c cl (s.old c cl h);
-        kept = λ c cl h. kept c cl h (ℕ_discrete c b);
-        came = λ c cl h n. came c cl h n (ℕ_discrete c b);
+        kept = kept;
+        came = came;
         shown = λ p c h cl q. stays c cl (s.shown p c h cl (rw (w.queue_same p (omega arith)) at q));
-        showing = λ c h cl q. showing c h cl (rw (w.queue_same head hd) at q) (ℕ_discrete c b) (dec_lt c from);
+        showing = λ c h cl q. showing c h cl (rw (w.queue_same head hd) at q);
       }
     where
       low : t'.queue tail < m
@@ -167,26 +167,14 @@ module _ {m : ℕ} {R : ℕ → ℕ → Type 0} {dead : ℕ → ℕ} {t : Tables
           let q = w.queue_same p pl in
           (p, omega arith, cc)
 
-      kept : (c : ℕ) → c < m → t'.seen c ≡ 1 → Dec (c ≡ b) → 0 < t'.prev c
-      kept c cl h (yes e) = let f = w.prev_same b bl in rw e (omega arith)
-      kept c cl h (no ne) =
-          let f = w.prev_same c cl in
-          let g = w.seen_other c cl ne in
-          let i = s.kept c cl (omega arith) in
-          omega arith
+      kept : (c : ℕ) → c < m → t'.seen c ≡ 1 → 0 < t'.prev c
+      kept c cl h = grind (arith, common_steps)
 
-      came : (c : ℕ) → c < m → t'.seen c ≡ 1 → dead c ≢ 1 → Dec (c ≡ b) → SeenFrom R t' (tail + 1) c
-      came c cl h n (yes e) = (head, omega arith, rw e w.via_here, rw (e, w.queue_same head hd) r)
-      came c cl h n (no ne) =
-          let g = w.seen_other c cl ne in
-          let u = w.via_other c cl ne in
-          let (p, pl, v, q) = s.came c cl (omega arith) n in
-          (p, omega arith, omega arith, rw (w.queue_same p pl) q)
+      came : (c : ℕ) → c < m → t'.seen c ≡ 1 → dead c ≢ 1 → SeenFrom R t' (tail + 1) c
+      came c cl h n = grind (arith, common_steps)
 
-      showing : (c : ℕ) → c < b + 1 → c < m → R (t.queue head) c → Dec (c ≡ b) → Dec (c < from) → t'.seen c ≡ 1
-      showing c h cl q (yes e) d = rw e w.seen_here
-      showing c h cl q (no ne) (yes l) = stays c cl (s.showing c l cl q)
-      showing c h cl q (no ne) (no nl) = stays c cl (gap c (omega arith) (omega arith) q)
+      showing : (c : ℕ) → c < b + 1 → c < m → R (t.queue head) c → t'.seen c ≡ 1
+      showing c h cl q = grind (arith, common_steps)
 
   -- the item at `head` has shown all
   pub item_done : Searching m R dead t head from tail → head < tail
