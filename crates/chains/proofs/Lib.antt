@@ -10,5 +10,4 @@ pub mod Reports
 pub mod Pairs
 pub mod Extending
 pub mod Joining
-pub mod Selves
 pub mod Looping
