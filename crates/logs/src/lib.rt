@@ -89,7 +89,7 @@ impl ToWord {
         requires { (self.episode < 2 ^ 16) × (self.pause < 2 ^ 12) }
         ensures { result ≡ to_word self.episode self.pause }
     {
-        Kind::To.word(self.pause as usize * 0x1_0000 + self.episode)
+        Kind::To.code() * 0x1000_0000 + self.pause * 0x1_0000 + self.episode as u32
     }
 }
 
