@@ -5,9 +5,16 @@ use Prim.Native.Nat.{ℕ, ◌≤◌}
 use native.Mathlib.Omega.{arith}
 use lib.ListN.{length}
 use Rattle.paths.specs.Graph.{Graph}
-use Rattle.logs.specs.Answer.{given, refused}
+use Rattle.logs.specs.Answer.{given, refused, reason_number}
 use Rattle.logs.specs.Log.{questions, graph_of}
+use Rattle.std.specs.Prelude.{Result, Ok, Err}
+use Rattle.std.proofs.lemmas.Bool.Decides.{eqb_tells}
+use mathlib.Core.Bool.{false}
+use mathlib.Core.Logic.{⊎_elim}
+use lib.Dec.{eqb}
 use Rattle.logs.specs.declared.Ceilings.{Ceilings}
+use Rattle.logs.specs.declared.Refusal.{Refusal}
+use Rattle.report.proofs.Asked.{asked_most}
 use Rattle.copying.specs.FairCopy.{fair_need}
 use Rattle.copying.proofs.FairCopies.{log_fits}
 use Rattle.writing.proofs.Layouts.{length_loop}
@@ -19,8 +26,6 @@ use Rattle.fair_copy.specs.Copied.{copy_asked}
 use Rattle.fair_copy.proofs.CopyCalls.{asked_graph}
 use Rattle.trimmed_copy.specs.Trimmed.{TrimLeft}
 use Rattle.trimmed_copy.specs.Answering.{Room, TrimAnswered}
-use Rattle.trimmed_copy.specs.declared.TrimOutcome.{TrimOutcome}
-use Rattle.trimmed_copy.specs.declared.TrimOutcome.TheVariants.{Trimmed, Loop as Looped, Refused}
 
 -- the links and the ways stand where the trimming looks for them
 pub held : {g : Graph} {n k : ℕ} {w : List ℕ} → Ready g n w → Room g k → Held g n w
@@ -45,14 +50,19 @@ enough m l n t k e h =
     }
 
 -- refused
-pub trim_refused : (m : Ceilings) (l o w : List ℕ) (q p : ℕ) → copy_asked m l (length o) (length w) ≡ refused q p → TrimLeft m l o w o w (Refused q p)
+pub trim_refused : (m : Ceilings) (l o w : List ℕ) (r : Refusal) → copy_asked m l (length o) (length w) ≡ refused (reason_number r.reason) r.place
+    → TrimLeft m l o w o w (Err r)
 unfolding TrimLeft
-trim_refused m l o w q p e = (e, refl, refl)
+trim_refused m l o w r e =
+    let most = asked_most m (λ n t. fair_need t) l (length o) (length w) (reason_number r.reason) r.place e in
+    rw (not_loop (reason_number r.reason) most) (e, refl, refl)
+  where
+    not_loop : (q : ℕ) → q ≤ 12 → eqb q 13 ≡ false
+    not_loop q h = ⊎_elim (λ y. absurd (omega (arith, y.1))) (λ n. n.0) (eqb_tells q 13)
 
 -- answered
 pub trim_left : (m : Ceilings) (l o w : List ℕ) (n t : ℕ) → copy_asked m l (length o) (length w) ≡ given (n, t) → (o' : List ℕ) {w' : List ℕ}
-    → (r : TrimOutcome) → TrimAnswered (graph_of l) o o' r → w' ≡ cleared w → TrimLeft m l o w o' w' r
+    → (r : Result ℕ Refusal) → TrimAnswered (graph_of l) o o' r → w' ≡ cleared w → TrimLeft m l o w o' w' r
 unfolding TrimLeft
-trim_left m l o w n t e o' (Trimmed c) d f = (asked_graph m l (length o) (length w) n t e, d, f)
-trim_left m l o w n t e o' (Looped c) d f = (asked_graph m l (length o) (length w) n t e, d, f)
-trim_left m l o w n t e o' (Refused q p) d f = absurd d
+trim_left m l o w n t e o' (Ok c) d f = (asked_graph m l (length o) (length w) n t e, d, f)
+trim_left m l o w n t e o' (Err r) d f = rw d.0 (asked_graph m l (length o) (length w) n t e, d.1, f)

@@ -7,15 +7,14 @@ use native.Mathlib.Omega.{arith}
 use lib.ListN.{length}
 use Rattle.writing.specs.Layout.{BeginsWith}
 use Rattle.trimming.specs.TrimmedCopy.{trimmed_words}
-use Rattle.report.proofs.Answers.{still_ready}
+use Rattle.report.specs.Solving.{Ready}
 use Rattle.trimmed_copy.proofs.TrimCalls.{held}
 use Rattle.trimmed_copy.proofs.answer.Goals as goal
 
 pub returns : goal.returns
 returns c =
     λ g ready room.
-    let sought = c.show_loop-length.ensures g ready in
-    let none = sought.none (omega arith) in
-    let (count, begins) =
-    c.write_trimmed.ensures g (held (still_ready sought (omega arith) ready) room) (omega (arith, ap length none.1, room.copy)) in
+    let none = rw c.in_default.is at (c.show_loop.ensures g ready) in
+    let after = subst (λ (x : List ℕ). Ready g c.args.n x) (sym none.2) ready in
+    let (count, begins) = c.write_trimmed.ensures g (held after room) (omega (arith, ap length none.1, room.copy)) in
     (none.0, sym count, subst (λ (o : List ℕ). BeginsWith (trimmed_words g) o c.write_trimmed.new.out) none.1 begins)
