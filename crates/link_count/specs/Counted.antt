@@ -1,12 +1,12 @@
 -- What a link count call gives.
 use Rattle.std.specs.Prelude.{◌≡◌, List, ℕ, length, Result}
+use mathlib.Core.List.{Memᴰ as Mem}
 use Rattle.paths.specs.Links.{distinct, link_count}
 use Rattle.logs.specs.Answer.{Answer, given, and_then, result_answer}
 use Rattle.logs.specs.Log.{questions, graph_of}
-use Rattle.logs.specs.Places.{Stopped}
-use Rattle.logs.specs.Groups.{links_before}
 use Rattle.logs.specs.declared.Ceilings.{Ceilings}
 use Rattle.logs.specs.declared.Refusal.{Refusal}
+use Rattle.bits.specs.Work.{matrix_words, Matrix}
 
 -- The answer of a link count call: the count, or a refusal.
 abbrev pub count_answer : Result ℕ Refusal → Answer ℕ
@@ -16,7 +16,8 @@ count_answer = result_answer (λ k. k)
 abbrev pub count_asked : Ceilings → List ℕ → Answer ℕ
 count_asked m l = and_then (questions m l) (given (link_count (graph_of l)))
 
--- The questions stop at `place`, before which there are `words` to words and `links` different links.
-pub record LinksStopped (m : Ceilings) (l : List ℕ) (n place words links : ℕ) : Type 0 where
-  pub stopped : Stopped m l n place words
-  pub counted : links ≡ length (distinct (links_before l place))
+-- `seen` has a row of bits for each episode, in which the links that were heard are marked, and `count` of them are different.
+pub record Counted (seen : List ℕ) (count : ℕ) (heard : List (ℕ × ℕ)) : Type 0 where
+  pub words : length seen ≡ matrix_words
+  pub marked : Matrix 0 seen (λ a b. Mem (a, b) heard)
+  pub counted : count ≡ length (distinct heard)

@@ -82,6 +82,12 @@ module _ (m : Ceilings) (n p w : ℕ) (rest : List ℕ) (from : Bool) (t : ℕ) 
   unfolding group_word
   group_other no-from no_to = rw (ne_eqb _ _ no-from, ne_eqb _ _ no_to)
 
+-- of a from word at a place of the log
+pub from_asked : (m : Ceilings) (l : List ℕ) (n p : ℕ) (from : Bool) (t : ℕ) → kind (get_or l p 0) ≡ 2
+    → group_word m n p (get_or l p 0) (drop (p + 1) l) from t
+    ≡ question 6 p (to_before_last l (p + 1)) (question 7 p (ltb (number (get_or l p 0)) n) (given (2, number (get_or l p 0), 0)))
+from_asked m l n p from t k = group_from m n p (get_or l p 0) (drop (p + 1) l) from t k ∙ rw behind
+
 -- what the questions say of a from word that is taken, and of a to word
 pub record FromTaken (n w : ℕ) (rest : List ℕ) : Type 0 where
   pub kind_from : kind w ≡ 2

@@ -16,10 +16,9 @@ use Rattle.logs.specs.Log.{to_before_last, group_word}
 use Rattle.logs.specs.Places.{onwards_at, Stopped}
 use Rattle.logs.specs.declared.ToWord.{ToWord}
 use Rattle.logs.specs.declared.LogWord.{LogWord}
-use Rattle.logs.specs.declared.LogWord.TheVariants.{From, To, End}
 use Rattle.logs.specs.declared.Refusal.{Refusal}
 use Rattle.logs.specs.declared.Ceilings.{Ceilings}
-use Rattle.logs.proofs.Asked.{behind, asked, to_there, there_to, group_to, group_taken, from_given, FromTaken, ToTaken}
+use Rattle.logs.proofs.Asked.{behind, asked, to_there, there_to, group_to, group_taken, FromTaken, ToTaken}
 use Rattle.logs.proofs.Places.{word_between, stop_last, stop_refused, step_from, step_to}
 
 -- at `p` a group begins, or the last word stands
@@ -74,45 +73,30 @@ module _ (m : Ceilings) (l : List ℕ) (n p t : ℕ) where
         ⊎_elim (λ taken. taken) (λ taken. absurd (no_to g h taken))
         (group_taken m n p (get_or l p 0) (drop (p + 1) l) (ltb 1 p) t (word_figures w) (sym e ∙ ap word_answer is))
 
-    -- it gives its episode
-    figures : (w : LogWord) → r ≡ Ok w → ◌≡◌ {A = ℕ × ℕ × ℕ} (word_figures w) (2, number (get_or l p 0), 0)
-    figures w is =
-        let taken = is_taken w is in
-        cc (sym e ∙ ap word_answer is, from_given m n p (get_or l p 0) (drop (p + 1) l) (ltb 1 p) t taken)
-
-    pub from_taken : (x : ℕ) → r ≡ Ok (From x) → InGroup m l n (p + 1) t × (to_before_last l (p + 1) ≡ true)
-    from_taken x is =
-        let taken = is_taken (From x) is in (
+    pub from_taken : (w : LogWord) → r ≡ Ok w → InGroup m l n (p + 1) t × (to_before_last l (p + 1) ≡ true)
+    from_taken w is =
+        let taken = is_taken w is in (
           record {
             behind_from = omega arith;
             within = h;
             few = omega arith;
-            same = sym (step_from m l n p (ltb 1 p) t (2, x, 0) h (sym e ∙ ap word_answer is) taken.kind_from) ∙ g.same;
+            same = sym (step_from m l n p (ltb 1 p) t (word_figures w) h (sym e ∙ ap word_answer is) taken.kind_from) ∙ g.same;
           },
           sym (behind l (p + 1)) ∙ taken.to_follows,
         )
 
-    pub from_episode : (x : ℕ) → r ≡ Ok (From x) → (kind (get_or l p 0) ≡ 2) × (x ≡ number (get_or l p 0)) × (x < n)
-    from_episode x is =
-        let taken = is_taken (From x) is in
-        let number_is : x ≡ number (get_or l p 0) = ap (λ (v : ℕ × ℕ × ℕ). v.1) (figures (From x) is) in
-        (taken.kind_from, number_is, omega (arith, taken.below))
+    -- it gives an episode
+    pub from_episode : (w : LogWord) → r ≡ Ok w → (kind (get_or l p 0) ≡ 2) × (number (get_or l p 0) < n)
+    from_episode w is = let taken = is_taken w is in (taken.kind_from, taken.below)
 
-    -- where it is not, it is refused
-    pub from_given_up : ((x : ℕ) → r ≡ Ok (From x) → ⊥) → Stopped m l n p t
-    from_given_up other = by_result r refl
-      where
-        by_result : (s : Result LogWord Refusal) → r ≡ s → Stopped m l n p t
-        by_result (Ok (From x)) is = absurd (other x is)
-        by_result (Ok (To w)) is = let k = ap (λ (v : ℕ × ℕ × ℕ). v.0) (figures (To w) is) in absurd (omega arith)
-        by_result (Ok (End x)) is = let k = ap (λ (v : ℕ × ℕ × ℕ). v.0) (figures (End x) is) in absurd (omega arith)
-        by_result (Err f) is =
-            let given_up = sym e ∙ ap word_answer is in
-            record {
-              within = g.within;
-              answer = sym g.same ∙ stop_refused m l n p (ltb 1 p) t _ _ h given_up;
-              ended = inr (_, _, word_between m l n p (ltb 1 p) t h ∙ given_up);
-            }
+    pub from_given_up : (f : Refusal) → r ≡ Err f → Stopped m l n p t
+    from_given_up f is =
+        let given_up = sym e ∙ ap word_answer is in
+        record {
+          within = g.within;
+          answer = sym g.same ∙ stop_refused m l n p (ltb 1 p) t (reason_number f.reason) f.place h given_up;
+          ended = inr (reason_number f.reason, f.place, word_between m l n p (ltb 1 p) t h ∙ given_up);
+        }
 
   -- of a to word behind its group's from word, 7 and 8 are left to ask
   module _ (g : InGroup m l n p t) (to_here : to_before_last l p ≡ true) (r : Result ToWord Refusal)

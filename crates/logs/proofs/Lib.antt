@@ -9,6 +9,7 @@ pub mod Pauses
 pub mod Rest
 pub mod WellFormed
 pub mod Laws
+pub mod Hearing
 pub mod Walk
 pub mod Passing
 pub mod Older

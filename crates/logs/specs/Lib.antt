@@ -7,3 +7,4 @@ pub mod Earlier
 pub mod Places
 pub mod Groups
 pub mod Passing
+pub mod Hear

@@ -1,12 +1,13 @@
 // The reading of a log: questions 1 to 10.
 #![tactic(auto)]
 
-ghost use Rattle.std.specs.Prelude.{◌≡◌, false, ◌+◌, ◌^◌, ◌<◌, ◌≤◌, ltb, eqb, length, get_or, drop};
+ghost use Rattle.std.specs.Prelude.{◌≡◌, false, ℕ, ◌+◌, ◌^◌, ◌<◌, ◌≤◌, ltb, eqb, List, [], ◌∷◌, ◌++◌, length, get_or, drop, OnOk};
 ghost use Rattle.logs.specs.Words.{kind, number, word, Small, to_episode, to_pause, to_word, kind_code};
 ghost use Rattle.logs.specs.Answer.{given, question, reason_number, result_answer, numbered, to_figures, word_answer, read_answer};
-ghost use Rattle.logs.specs.Log.{service, to_before_last, head_word, group_word, end_word, questions};
+ghost use Rattle.logs.specs.Log.{service, to_before_last, head_word, group_word, end_word, questions, graph_of};
 ghost use Rattle.logs.specs.Places.{log_word_at, Stopped};
-ghost use Rattle.logs.specs.Groups.{ToWords};
+ghost use Rattle.logs.specs.Groups.{ToWords, links_before};
+ghost use Rattle.logs.specs.Hear.{Next};
 
 pub mod passed;
 
@@ -232,7 +233,7 @@ pub fn to_word(most: Ceilings, n: usize, at: usize, w: u32, count: usize) -> Res
 }
 
 // Questions 4 to 8, of the word at `at`, which is neither the head nor the last.
-#[tactic(auto, using(crate::proofs::Asked::group_from, crate::proofs::Asked::group_to, crate::proofs::Asked::group_other, crate::proofs::Asked::behind))]
+#[tactic(auto, using(crate::proofs::Asked::from_asked, crate::proofs::Asked::group_to, crate::proofs::Asked::group_other))]
 pub fn group_word(
     most: Ceilings,
     log: &[u32],
@@ -298,10 +299,31 @@ struct Stop {
     count: usize,
 }
 
-// The place of the first word between head and end that earns a refusal, or else of the last word.
-fn first_stop(most: Ceilings, log: &[u32], n: usize) -> Stop
-    requires { 2 ≤ length log.now }
-    ensures { Stopped most log.now n result.place result.count }
+// What hears the links of a log one by one, as the log is read.
+pub trait Hear {
+    // the links that it has heard
+    ghost heard: { Self → List (ℕ × ℕ) → Type 0 };
+
+    // of how many episodes it takes logs
+    ghost takes: { ℕ → Type 0 };
+
+    // the row of a from word's episode
+    ghost row_of: { ℕ → ℕ };
+
+    fn row(from: usize) -> usize
+        requires { (n : ℕ) × takes n × (from < n) }
+        ensures { result ≡ row_of from };
+
+    // Hears the link to episode `to` from the episode with that row.
+    fn hear(&mut self, row: usize, to: usize)
+        requires { Next takes row_of (heard self.old) row to }
+        ensures { (next : Next takes row_of (heard self.old) row to) → heard self.new (next.links ++ (next.from, to) ∷ []) };
+}
+
+// The place of the first word between head and end that earns a refusal, or else of the last word. The links before it are heard.
+fn first_stop<H: Hear>(most: Ceilings, log: &[u32], n: usize, hearer: &mut H) -> Stop
+    requires { (2 ≤ length log.now) × (n ≤ most.episodes) × H.takes most.episodes × H.heard hearer.old [] }
+    ensures { Stopped most log.now n result.place result.count × H.heard hearer.new (links_before log.now result.place) }
 {
     let last = log.len() - 1;
     let mut at = 1;
@@ -312,17 +334,19 @@ fn first_stop(most: Ceilings, log: &[u32], n: usize) -> Stop
             break 'log at;
         }
         // A group starts with its from word, which answers question 5 for its to words, and question 6 says that it has one. A to word is met
-        // here only as word 1, before any from word.
-        let Ok(LogWord::From(_)) = group_word(most, log, n, at, 1 < at, at - others) else {
+        // here only as word 1, before any from word, and refused.
+        let Ok(_) = group_word(most, log, n, at, 1 < at, at - others) else {
             break 'log at;
         };
+        let row = H::row(number_of(log[at]));
         at += 1;
         others += 1;
         // Its to words.
         loop {
-            let Ok(_) = to_word(most, n, at, log[at], at - others) else {
+            let Ok(to) = to_word(most, n, at, log[at], at - others) else {
                 break 'log at;
             };
+            hearer.hear(row, to.episode);
             at += 1;
             if !to_before_last(log, at) {
                 break;
@@ -335,21 +359,52 @@ fn first_stop(most: Ceilings, log: &[u32], n: usize) -> Stop
     }
 }
 
-// Questions 1 to 10, at a caller's ceilings.
-#[tactic(auto, using(crate::proofs::Whole::too_short, crate::proofs::Whole::head_first, crate::proofs::Whole::word_stopped))]
-pub fn read_within(most: Ceilings, log: &[u32]) -> Result<Reading, Refusal>
-    ensures { read_answer result ≡ questions most log.now }
+// Questions 1 to 10, at a caller's ceilings, in one pass over the log. Where they are answered yes, its links have been heard in their order.
+#[tactic(auto, using(crate::proofs::Whole::too_short, crate::proofs::Whole::head_first, crate::proofs::Whole::word_stopped, crate::proofs::Hearing::all_links))]
+pub fn read_hearing<H: Hear>(
+    most: Ceilings,
+    log: &[u32],
+    hearer: &mut H,
+) -> Result<Reading, Refusal>
+    requires { H.takes most.episodes × H.heard hearer.old [] }
+    ensures answer { read_answer result ≡ questions most log.now }
+    ensures heard { OnOk result (H.heard hearer.new (graph_of log.now).links) }
 {
     if log.len() < 2 {
         return Err(Reason::TooShort.at(0));
     }
     let n = head_word(most, log[0])?;
-    let stop = first_stop(most, log, n);
+    let stop = first_stop(most, log, n, hearer);
     log_word(most, log, n, stop.place, 1 < stop.place, stop.count)?;
     Ok(Reading {
         episodes: n,
         to_words: stop.count,
     })
+}
+
+// Hears nothing.
+#[derive(Drop)]
+struct Deaf;
+
+impl Hear for Deaf {
+    ghost heard = { λ _ _. Unit {0} };
+
+    ghost takes = { λ _. Unit {0} };
+
+    ghost row_of = { λ from. from };
+
+    fn row(from: usize) -> usize {
+        from
+    }
+
+    fn hear(&mut self, _row: usize, _to: usize) {}
+}
+
+// Questions 1 to 10, at a caller's ceilings.
+pub fn read_within(most: Ceilings, log: &[u32]) -> Result<Reading, Refusal>
+    ensures { read_answer result ≡ questions most log.now }
+{
+    read_hearing(most, log, &mut Deaf)
 }
 
 // The service's ceilings.

@@ -1,48 +1,65 @@
 use native.Mathlib.Omega.{arith}
-use mathlib.Core.Path.{◌≡◌, ◌∙◌, sym, ap}
-use Rattle.std.proofs.Common.{rules}
-use Prim.Native.Nat.{ℕ, ◌+◌, ◌-◌}
-use Rattle.std.specs.Prelude.{Ok}
-use Rattle.logs.proofs.Groups.{from_taken, from_given_up, to_taken, to_given_up, group_ends, group_by_others, at_last}
+use mathlib.Core.Path.{◌∙◌, sym, ap}
+use Prim.Native.Nat.{◌+◌, ◌-◌}
+use Rattle.logs.proofs.Groups.{from_episode, from_given_up, to_given_up, at_last}
+use Rattle.logs.proofs.Hearing.{heard_none, heard_from, next_link, heard_on, heard_behind}
 use Rattle.logs.proofs.first_stop.Goals as goal
-use Rattle.logs.proofs.first_stop.Goals.{then-at-last, else-at-last+in_default, else-at-last+in_default-2, else-at-last+in-Ok-From+in_default-to_word}
+use Rattle.logs.proofs.first_stop.Goals.{then-at-last, else-at-last+in_default, else-at-last+in-Ok+in_default-to_word}
 
-pub loop-at-init : goal.loop-at-init
-loop-at-init c =
+pub log-init : goal.log-init
+log-init g c = heard_none (g.H.Hear.heard c.args.hearer.now) _ _ _ c.requires.0 c.requires.3
+
+pub row-row-requires : goal.row-row-requires
+row-row-requires g c =
     let at = c.log in
-    let (in_group, to_here) = from_taken _ _ _ at.at (at.at - at.others) at.invariant.0 (omega arith) _ c.group_word.ensures _ (c.in-Ok-From.is ∙ ap Ok c.in-Ok-From.field-0-is) in
-    let same : at.at - at.others ≡ at.at + 1 - (at.others + 1) = omega arith in
-    (rw same at in_group, to_here, omega arith, omega arith)
+    let episode = from_episode _ _ _ at.at (at.at - at.others) at.invariant.group (omega (arith, at.invariant.group.within)) _ c.group_word.ensures _ c.in-Ok.is in
+    (c.args.most.episodes, c.requires.2, omega (arith, episode.1, c.requires.1, c.number_of.ensures))
+
+pub loop-to-init : goal.loop-to-init
+loop-to-init g c =
+    let at = c.log in (
+      heard_from (g.H.Hear.heard at.hearer) _ _ _ g.H.Hear.row_of at.at at.others _ at.invariant (omega (arith, at.invariant.group.within)) _ c.group_word.ensures _
+          c.in-Ok.is (c.row-row.ensures ∙ ap g.H.Hear.row_of c.number_of.ensures),
+      omega arith,
+    )
+
+pub hear-requires : goal.hear-requires
+hear-requires g c =
+    let at = c.loop-to in
+    next_link _ g.H.Hear.takes g.H.Hear.row_of _ _ _ at.at (c.log.others + 1) _ at.invariant.0 c.requires.2 c.requires.1 _ c.to_word.ensures _ c.in-Ok-to_word.is (omega arith)
 
 pub log-preserved : goal.log-preserved
-log-preserved c =
-    let at = c.loop-at in
-    let others : ℕ = c.log.others + 1 in
-    let here = group_by_others _ _ _ at.at others (omega arith)
-    (to_taken _ _ _ at.at (at.at - others) at.invariant.0 at.invariant.1 _ c.to_word.ensures _ c.in-Ok.is) in
-    (group_ends _ _ _ _ _ here (sym c.to_before_last.ensures ∙ c.if-not-to_before_last.true), omega arith, omega arith)
+log-preserved g c =
+    let at = c.loop-to in
+    heard_behind _ g.H.Hear.takes g.H.Hear.row_of _ _ _ at.at (c.log.others + 1) _ at.invariant.0 c.requires.2 c.requires.1 _ c.to_word.ensures _ c.in-Ok-to_word.is
+    (g.H.Hear.heard c.hear.new.self) c.hear.ensures (omega arith) (sym c.to_before_last.ensures ∙ c.if-not-to_before_last.true)
 
-pub loop-at-preserved : goal.loop-at-preserved
-loop-at-preserved c =
-    let at = c.loop-at in
-    let others : ℕ = c.log.others + 1 in
-    let here = group_by_others _ _ _ at.at others (omega arith)
-    (to_taken _ _ _ at.at (at.at - others) at.invariant.0 at.invariant.1 _ c.to_word.ensures _ c.in-Ok.is) in
-    (here, sym c.to_before_last.ensures ∙ c.if-not-to_before_last.false, omega arith, omega arith)
+pub loop-to-preserved : goal.loop-to-preserved
+loop-to-preserved g c =
+    let at = c.loop-to in (
+      heard_on _ g.H.Hear.takes g.H.Hear.row_of _ _ _ at.at (c.log.others + 1) _ at.invariant.0 c.requires.2 c.requires.1 _ c.to_word.ensures _ c.in-Ok-to_word.is
+          (g.H.Hear.heard c.hear.new.self) c.hear.ensures (omega arith) (sym c.to_before_last.ensures ∙ c.if-not-to_before_last.false),
+      omega arith,
+    )
 
 -- the loops are left at the last word, at a word where a group begins, or at a to word of a group
 pub returns : goal.returns
-returns c =
+returns g c =
     let at = c.log in
     elim c.if-at-last.branch [
-      | then-at-last u ↦ rw (u.others-is, u.place-is) (at_last _ _ _ at.at (at.at - at.others) at.invariant.0 (omega (arith, u.if-at-last.true)))
-      | else-at-last+in_default u ↦ rw (u.others-is, u.place-is)
-          (from_given_up _ _ _ at.at (at.at - at.others) at.invariant.0 (omega (arith, u.if-at-last.false)) _ u.group_word.ensures (λ x is. let h = u.in_default.is in absurd (search rules)))
-      | else-at-last+in_default-2 u ↦
-          rw (u.others-is, u.place-is)
-          (from_given_up _ _ _ at.at (at.at - at.others) at.invariant.0 (omega (arith, u.if-at-last.false)) _ u.group_word.ensures (λ x is. let h = u.in_default.is in cc))
-      | else-at-last+in-Ok-From+in_default-to_word u ↦
-          let others : ℕ = at.others + 1 in
-          rw (u.others-is, u.place-is)
-          (to_given_up _ _ _ u.loop-at.at (u.loop-at.at - others) u.loop-at.invariant.0 u.loop-at.invariant.1 _ u.to_word.ensures _ u.in_default-to_word.is)
+      | then-at-last u ↦
+          rw (u.hearer-is, u.others-is, u.place-is)
+          (at_last _ _ _ at.at (at.at - at.others) at.invariant.group (omega (arith, u.if-at-last.true)), at.invariant.links)
+      | else-at-last+in_default u ↦
+          rw (u.hearer-is, u.others-is, u.place-is) (
+            from_given_up _ _ _ at.at (at.at - at.others) at.invariant.group (omega (arith, u.if-at-last.false, at.invariant.group.within)) _ u.group_word.ensures _
+                u.in_default.is,
+            at.invariant.links,
+          )
+      | else-at-last+in-Ok+in_default-to_word u ↦
+          let here = u.loop-to.invariant.0 in
+          rw (u.hearer-is, u.others-is, u.place-is) (
+            to_given_up _ _ _ u.loop-to.at (u.loop-to.at - (at.others + 1)) here.group here.to_here _ u.to_word.ensures _ u.in_default-to_word.is,
+            here.links,
+          )
     ]
