@@ -19,11 +19,11 @@ use Rattle.paths.proofs.Links.{linked_mem, mem_linked}
 use Rattle.logs.specs.Words.{kind, to_episode, to_pause}
 use Rattle.logs.specs.Content.{Heard, Content, joins, pauses_of, least, least_pause}
 use Rattle.logs.specs.Log.{to_before_last, content_of, graph_of, PassedLog}
-use Rattle.logs.specs.Groups.{heard_before, nearest_from, ToWords}
+use Rattle.logs.specs.Groups.{heard_before, nearest_from, ToWords, Starts}
 use Rattle.logs.proofs.Asked.{to_there}
 use Rattle.logs.proofs.Pauses.{pauses_append, pauses_one, pauses_none, pauses_heard, heard_pauses, link_heard, least_mem, least_more}
 use Rattle.logs.proofs.Laws.{graph_episodes, before_head, pass_to, heard_passed}
-use Rattle.logs.proofs.Walk.{no_words, words_more, along, nearest_same, GroupHere, first_here, from_passed, to_fits, next_here}
+use Rattle.logs.proofs.Walk.{no_words, words_more, along, nearest_same, first_here, from_passed, to_fits, next_here}
 use Rattle.writing.specs.Layout.{BeginsWith}
 use Rattle.copying.specs.FairCopy.{linked_to, group}
 use Rattle.copying.specs.Copying.{
@@ -163,7 +163,7 @@ group_passed block l start r w behind other s =
 
 -- at place `p` a group starts or the last word stands, and the block marks the links of the words before it
 pub record Marking (l w w' : List ℕ) (block p : ℕ) : Type 0 where
-  pub here : GroupHere l p
+  pub here : Starts l p
   pub same_length : length w' ≡ length w
   pub marks : BlockMarks block (content_before l p) w'
 
