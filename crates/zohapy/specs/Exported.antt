@@ -1,14 +1,13 @@
 -- What the exported functions answer: the outcomes of the services as plain numbers.
-use Rattle.std.specs.Prelude.{◌≡◌, List, ℕ, ◌+◌}
+use Rattle.std.specs.Prelude.{◌≡◌, Result, List, ℕ, ◌+◌}
 use Rattle.logs.specs.Answer.{Answer, given, refused}
 use Rattle.logs.specs.Log.{service}
+use Rattle.logs.specs.declared.Refusal.{Refusal}
 use Rattle.parsing.specs.Whole.{ThreadNumber, ThreadStretch}
 use Rattle.report.specs.Report.{Left, outcome_answer}
 use Rattle.fair_copy.specs.Copied.{CopyLeft, copy_answer}
 use Rattle.trimmed_copy.specs.Trimmed.{TrimLeft, trim_answer}
 use Rattle.report.specs.declared.Outcome.{Outcome}
-use Rattle.fair_copy.specs.declared.CopyOutcome.{CopyOutcome}
-use Rattle.trimmed_copy.specs.declared.TrimOutcome.{TrimOutcome}
 
 -- A reading in four numbers: 0, 0, n and the count of to words, or a refusal's number and place and twice 0.
 abbrev pub read_numbers : Answer (ℕ × ℕ) → ℕ × ℕ × ℕ × ℕ
@@ -26,11 +25,11 @@ Reports l o w o' w' number value = (r : Outcome) × Left service l o w o' w' r �
 
 -- `number` and `value` are those of a fair copy call's outcome that leaves these buffers
 abbrev pub Copies : List ℕ → List ℕ → List ℕ → List ℕ → List ℕ → ℕ → ℕ → Type 0
-Copies l o w o' w' number value = (r : CopyOutcome) × CopyLeft service l o w o' w' r × (numbers (copy_answer r) ≡ (number, value))
+Copies l o w o' w' number value = (r : Result ℕ Refusal) × CopyLeft service l o w o' w' r × (numbers (copy_answer r) ≡ (number, value))
 
 -- `number` and `value` are those of a trimmed copy call's outcome that leaves these buffers
 abbrev pub Trims : List ℕ → List ℕ → List ℕ → List ℕ → List ℕ → ℕ → ℕ → Type 0
-Trims l o w o' w' number value = (r : TrimOutcome) × TrimLeft service l o w o' w' r × (numbers (trim_answer r) ≡ (number, value))
+Trims l o w o' w' number value = (r : Result ℕ Refusal) × TrimLeft service l o w o' w' r × (numbers (trim_answer r) ≡ (number, value))
 
 -- `number` is that of asking for thread `i`, and the `count` words from `start` on are its steps
 abbrev pub Thread : List ℕ → ℕ → ℕ → ℕ → ℕ → Type 0

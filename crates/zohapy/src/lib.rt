@@ -2,18 +2,13 @@
 #![tactic(auto)]
 
 ghost use Rattle.std.specs.Prelude.{◌≡◌};
+ghost use Rattle.logs.specs.Answer.{result_answer};
 ghost use Rattle.logs.specs.Log.{service, questions};
 ghost use Rattle.link_count.specs.Counted.{count_asked};
 ghost use Rattle.zohapy.specs.Exported.{read_numbers, numbers, Reports, Copies, Trims, Thread};
 
-use fair_copy::CopyOutcome;
-use link_count::LinkCount;
-use logs::Reading;
+use logs::{Reason, Refusal};
 use report::Outcome;
-use trimmed_copy::TrimOutcome;
-
-// The number of the refusal of a log with a loop.
-const LOOP: u32 = 13;
 
 // A reading: number 0 with n and the count of to words, or a refusal's number and place. What is not given is 0.
 #[repr(C)]
@@ -42,21 +37,38 @@ pub struct ThreadAnswer {
     pub length: usize,
 }
 
+impl From<Result<usize, Refusal>> for Answer {
+    ghost from_gives = { λ r a. numbers (result_answer (λ c. c) r) ≡ (a.number, a.value) };
+
+    fn from(counted: Result<usize, Refusal>) -> Answer {
+        match counted {
+            Ok(count) => Answer {
+                number: 0,
+                value: count,
+            },
+            Err(refusal) => Answer {
+                number: refusal.number(),
+                value: refusal.place,
+            },
+        }
+    }
+}
+
 // Questions 1 to 10.
 #[unsafe(no_mangle)]
 pub extern "C" fn zohapy_read(log: &[u32]) -> ReadAnswer
     ensures { read_numbers (questions service log.now) ≡ (result.number, result.place, result.episodes, result.links) }
 {
     match logs::read(log) {
-        Reading::Passed(n, t) => ReadAnswer {
+        Ok(reading) => ReadAnswer {
             number: 0,
             place: 0,
-            episodes: n,
-            links: t,
+            episodes: reading.episodes,
+            links: reading.to_words,
         },
-        Reading::Refused(number, place) => ReadAnswer {
-            number,
-            place,
+        Err(refusal) => ReadAnswer {
+            number: refusal.number(),
+            place: refusal.place,
             episodes: 0,
             links: 0,
         },
@@ -68,16 +80,7 @@ pub extern "C" fn zohapy_read(log: &[u32]) -> ReadAnswer
 pub extern "C" fn zohapy_links(log: &[u32]) -> Answer
     ensures { numbers (count_asked service log.now) ≡ (result.number, result.value) }
 {
-    match link_count::link_count(log) {
-        LinkCount::Counted(links) => Answer {
-            number: 0,
-            value: links,
-        },
-        LinkCount::Refused(refusal, place) => Answer {
-            number: refusal,
-            value: place,
-        },
-    }
+    Answer::from(link_count::link_count(log))
 }
 
 // The report on a log. A loop is refusal 13 at its length.
@@ -86,12 +89,12 @@ pub extern "C" fn zohapy_report(log: &[u32], out: &mut [u32], work: &mut [u32]) 
     ensures { Reports log.now out.old work.old out.new work.new result.number result.value }
 {
     match report::report(log, out, work) {
-        Outcome::Report(count) => Answer {
+        Outcome::Report(words) => Answer {
             number: 0,
-            value: count,
+            value: words,
         },
         Outcome::Loop(length) => Answer {
-            number: LOOP,
+            number: Reason::Loop.at(length).number(),
             value: length,
         },
         Outcome::Refused(number, place) => Answer {
@@ -106,16 +109,7 @@ pub extern "C" fn zohapy_report(log: &[u32], out: &mut [u32], work: &mut [u32]) 
 pub extern "C" fn zohapy_fair_copy(log: &[u32], out: &mut [u32], work: &mut [u32]) -> Answer
     ensures { Copies log.now out.old work.old out.new work.new result.number result.value }
 {
-    match fair_copy::fair_copy(log, out, work) {
-        CopyOutcome::Copied(words) => Answer {
-            number: 0,
-            value: words,
-        },
-        CopyOutcome::Refused(number, place) => Answer {
-            number,
-            value: place,
-        },
-    }
+    Answer::from(fair_copy::fair_copy(log, out, work))
 }
 
 // The trimmed copy of a log. A loop is refusal 13 at its length.
@@ -123,20 +117,7 @@ pub extern "C" fn zohapy_fair_copy(log: &[u32], out: &mut [u32], work: &mut [u32
 pub extern "C" fn zohapy_trimmed_copy(log: &[u32], out: &mut [u32], work: &mut [u32]) -> Answer
     ensures { Trims log.now out.old work.old out.new work.new result.number result.value }
 {
-    match trimmed_copy::trimmed_copy(log, out, work) {
-        TrimOutcome::Trimmed(trimmed) => Answer {
-            number: 0,
-            value: trimmed,
-        },
-        TrimOutcome::Loop(length) => Answer {
-            number: LOOP,
-            value: length,
-        },
-        TrimOutcome::Refused(number, place) => Answer {
-            number,
-            value: place,
-        },
-    }
+    Answer::from(trimmed_copy::trimmed_copy(log, out, work))
 }
 
 // The steps of thread `i` of a report.
@@ -144,11 +125,16 @@ pub extern "C" fn zohapy_trimmed_copy(log: &[u32], out: &mut [u32], work: &mut [
 pub extern "C" fn zohapy_thread(report: &[u32], i: usize) -> ThreadAnswer
     ensures { Thread report.now i result.number result.start result.length }
 {
-    let number = threads::thread_number(report, i);
-    let stretch = threads::thread_stretch(report, i);
-    ThreadAnswer {
-        number,
-        start: stretch.start,
-        length: stretch.end - stretch.start,
+    match threads::find_thread(report, i) {
+        Ok(stretch) => ThreadAnswer {
+            number: 0,
+            start: stretch.start,
+            length: stretch.end - stretch.start,
+        },
+        Err(refusal) => ThreadAnswer {
+            number: refusal.number(),
+            start: 0,
+            length: 0,
+        },
     }
 }
