@@ -19,13 +19,14 @@ use Rattle.logs.specs.Content.{HeardOf, LeastPause, SameContent}
 use Rattle.logs.specs.Log.{questions, content_of, graph_of}
 use Rattle.logs.specs.Earlier.{Older}
 use Rattle.logs.specs.Earlier as earlier
+use Rattle.std.specs.Prelude.{Result}
 use Rattle.logs.specs.declared.Ceilings.{Ceilings}
+use Rattle.logs.specs.declared.Refusal.{Refusal}
 use Rattle.logs.proofs.Asked.{then_given, given_then, then_refused}
 use Rattle.logs.proofs.Laws.{links_below, graph_count}
 use Rattle.logs.proofs.Pauses.{same_links}
 use Rattle.logs.proofs.Older.{questions_older, graph_older, no_pause_lem}
 use Rattle.link_count.specs.Counted.{count_answer, count_asked}
-use Rattle.link_count.specs.declared.LinkCount.{LinkCount}
 use Rattle.writing.specs.Layout.{report_words, loop_words, report_need, apart_of, threads_of, BeginsWith}
 use Rattle.parsing.specs.Whole.{IsReport, Whole, ThreadNumber, ThreadSteps}
 use Rattle.parsing.proofs.Wholes.{report_read}
@@ -39,10 +40,8 @@ use Rattle.report.specs.Report.{outcome_answer, asked, cleared, Paired, Reported
 use Rattle.report.specs.Accepted.{Accepted, LentEnough}
 use Rattle.report.specs.declared.Outcome.{Outcome}
 use Rattle.fair_copy.specs.Copied.{copy_answer, copy_asked, CopyLeft}
-use Rattle.fair_copy.specs.declared.CopyOutcome.{CopyOutcome}
 use Rattle.fair_copy.proofs.Copied as copies
 use Rattle.trimmed_copy.specs.Trimmed.{trim_answer, TrimPasses, TrimLeft}
-use Rattle.trimmed_copy.specs.declared.TrimOutcome.{TrimOutcome}
 use Rattle.trimmed_copy.proofs.Trimmed as trims
 use Rattle.promises.proofs.ThreadsLeft as threads
 use Rattle.promises.proofs.SmallLogs as small
@@ -165,7 +164,7 @@ small_logs = small.small_logs
 
 -- 6. Of every fair copy call: `CopyLeft m l o w o' w' r` is its contract, and `copy_answer` gives the scope's numbers. The copy's words are the
 -- first `c` of the output.
-module _ (m : Ceilings) (l o w o' w' : List ℕ) (r : CopyOutcome) (left : CopyLeft m l o w o' w' r) where
+module _ (m : Ceilings) (l o w o' w' : List ℕ) (r : Result ℕ Refusal) (left : CopyLeft m l o w o' w' r) where
   -- A copy is given exactly when questions 1 to 12 are answered yes; loops are copied like other links.
   pub copy_exactly : ((c : ℕ) × (copy_answer r ≡ given c)) ↔ (copy_asked m l (length o) (length w) ≡ given ((graph_of l).n, length (graph_of l).links))
   copy_exactly = (λ (c, e). (copies.given_left m l o w o' w' r c left e).passes, λ passes. copies.asked_given_count m l o w o' w' r passes left)
@@ -177,7 +176,7 @@ module _ (m : Ceilings) (l o w o' w' : List ℕ) (r : CopyOutcome) (left : CopyL
   pub copy_refused_unchanged : (q p : ℕ) → copy_answer r ≡ refused q p → (o' ≡ o) × (w' ≡ w)
   copy_refused_unchanged q p e = let d = copies.refused_asked m l o w o' w' r q p left e in (d.1, d.2)
 
-module _ (m : Ceilings) (l o w o' w' : List ℕ) (r : CopyOutcome) (left : CopyLeft m l o w o' w' r) (c : ℕ) (e : copy_answer r ≡ given c) where
+module _ (m : Ceilings) (l o w o' w' : List ℕ) (r : Result ℕ Refusal) (left : CopyLeft m l o w o' w' r) (c : ℕ) (e : copy_answer r ≡ given c) where
   -- what the proofs below cite
   copy : copies.CopyGiven m l o w o' w' c
   copy = copies.given_left m l o w o' w' r c left e
@@ -234,7 +233,7 @@ module _ (m : Ceilings) (l o w o' w' : List ℕ) (r : CopyOutcome) (left : CopyL
   copy_loops = graphs.same_loops copy_read_back.1
 
   -- A second call, at any ceilings and with any buffers, that gives a copy too.
-  module _ (m₂ : Ceilings) (l₂ o₂ w₂ o₂' w₂' : List ℕ) (r₂ : CopyOutcome) (left₂ : CopyLeft m₂ l₂ o₂ w₂ o₂' w₂' r₂) (c₂ : ℕ)
+  module _ (m₂ : Ceilings) (l₂ o₂ w₂ o₂' w₂' : List ℕ) (r₂ : Result ℕ Refusal) (left₂ : CopyLeft m₂ l₂ o₂ w₂ o₂' w₂' r₂) (c₂ : ℕ)
       (e₂ : copy_answer r₂ ≡ given c₂) where
     -- The two copies are equal exactly when n, the sets of links and the least pause of each link agree.
     pub copies_equal : (take c o' ≡ take c₂ o₂') ↔ SameContent (content_of l) (content_of l₂)
@@ -290,7 +289,7 @@ module _ (m : Ceilings) (l o w o' w' : List ℕ) (r : Outcome) (left : Left m l 
 
 -- 8. Of every trimmed copy call: `TrimLeft m l o w o' w' r` is its contract, and `trim_answer` gives the scope's numbers. The copy's words are the
 -- first `c` of the output. Its questions 1 to 12 are those of a fair copy call.
-module _ (m : Ceilings) (l o w o' w' : List ℕ) (r : TrimOutcome) (left : TrimLeft m l o w o' w' r) where
+module _ (m : Ceilings) (l o w o' w' : List ℕ) (r : Result ℕ Refusal) (left : TrimLeft m l o w o' w' r) where
   -- A trimmed copy is given exactly when questions 1 to 12 are answered yes and the log's graph has no loop.
   pub trim_exactly : ((c : ℕ) × (trim_answer r ≡ given c)) ↔ (TrimPasses m l (length o) (length w) × ((c : List ℕ) → Loop (graph_of l) c → ⊥))
   trim_exactly = (
@@ -321,7 +320,7 @@ module _ (m : Ceilings) (l o w o' w' : List ℕ) (r : TrimOutcome) (left : TrimL
   pub trim_refused_unchanged : (q p : ℕ) → q ≤ 12 → trim_answer r ≡ refused q p → (o' ≡ o) × (w' ≡ w)
   trim_refused_unchanged q p h e = let d = trims.refused_asked m l o w o' w' r q p h left e in (d.1, d.2)
 
-module _ (m : Ceilings) (l o w o' w' : List ℕ) (r : TrimOutcome) (left : TrimLeft m l o w o' w' r) (c : ℕ) (e : trim_answer r ≡ given c) where
+module _ (m : Ceilings) (l o w o' w' : List ℕ) (r : Result ℕ Refusal) (left : TrimLeft m l o w o' w' r) (c : ℕ) (e : trim_answer r ≡ given c) where
   -- what the proofs below cite
   trim : trims.TrimGiven m l o w o' w' c
   trim = trims.given_left m l o w o' w' r c left e
@@ -379,7 +378,7 @@ module _ (m : Ceilings) (l o w o' w' : List ℕ) (r : TrimOutcome) (left : TrimL
   trim_least l₂ same a b k = graphs.trimmed_least (links_below m l _ _ trim.read) same a b ((trim_links a b).0 k)
 
   -- A second call, at any ceilings and with any buffers, that gives a trimmed copy too.
-  module _ (m₂ : Ceilings) (l₂ o₂ w₂ o₂' w₂' : List ℕ) (r₂ : TrimOutcome) (left₂ : TrimLeft m₂ l₂ o₂ w₂ o₂' w₂' r₂) (c₂ : ℕ)
+  module _ (m₂ : Ceilings) (l₂ o₂ w₂ o₂' w₂' : List ℕ) (r₂ : Result ℕ Refusal) (left₂ : TrimLeft m₂ l₂ o₂ w₂ o₂' w₂' r₂) (c₂ : ℕ)
       (e₂ : trim_answer r₂ ≡ given c₂) where
     -- what the proofs below cite
     second : trims.TrimGiven m₂ l₂ o₂ w₂ o₂' w₂' c₂
@@ -396,7 +395,7 @@ module _ (m : Ceilings) (l o w o' w' : List ℕ) (r : TrimOutcome) (left : TrimL
     trim_again is-trim = rw (second.words, is-trim, trim.words) (trimming.trim_again m l _ _ trim.read trim.acyclic)
 
   -- A fair copy call, at any ceilings and with any buffers, that gives a copy.
-  module _ (m₂ : Ceilings) (l₂ o₂ w₂ o₂' w₂' : List ℕ) (r₂ : CopyOutcome) (left₂ : CopyLeft m₂ l₂ o₂ w₂ o₂' w₂' r₂) (c₂ : ℕ)
+  module _ (m₂ : Ceilings) (l₂ o₂ w₂ o₂' w₂' : List ℕ) (r₂ : Result ℕ Refusal) (left₂ : CopyLeft m₂ l₂ o₂ w₂ o₂' w₂' r₂) (c₂ : ℕ)
       (e₂ : copy_answer r₂ ≡ given c₂) where
     -- what the proofs below cite
     fair_second : copies.CopyGiven m₂ l₂ o₂ w₂ o₂' w₂' c₂
@@ -407,7 +406,7 @@ module _ (m : Ceilings) (l o w o' w' : List ℕ) (r : TrimOutcome) (left : TrimL
     trim_fair is-trim = rw (fair_second.words, is-trim, trim.words) (trimming.trim_fair m l _ _ trim.read)
 
     -- The trimmed copy of a fair copy is that of the log: a third call, on the fair copy.
-    module _ (m₃ : Ceilings) (l₃ o₃ w₃ o₃' w₃' : List ℕ) (r₃ : TrimOutcome) (left₃ : TrimLeft m₃ l₃ o₃ w₃ o₃' w₃' r₃) (c₃ : ℕ)
+    module _ (m₃ : Ceilings) (l₃ o₃ w₃ o₃' w₃' : List ℕ) (r₃ : Result ℕ Refusal) (left₃ : TrimLeft m₃ l₃ o₃ w₃ o₃' w₃' r₃) (c₃ : ℕ)
         (e₃ : trim_answer r₃ ≡ given c₃) where
       pub fair_trim : l₂ ≡ l → l₃ ≡ take c₂ o₂' → take c₃ o₃' ≡ take c o'
       fair_trim is-log is-fair =
@@ -439,7 +438,7 @@ module _ (l : List ℕ) (older : Older l) where
 
 -- 10. Of every link count call: its contract is that its answer, `count_answer r`, is that of questions 1 to 10 and then the link count of the log's
 -- graph, `count_asked m l`.
-module _ (m : Ceilings) (l : List ℕ) (r : LinkCount) (answer : count_answer r ≡ count_asked m l) where
+module _ (m : Ceilings) (l : List ℕ) (r : Result ℕ Refusal) (answer : count_answer r ≡ count_asked m l) where
   -- A count is given exactly when questions 1 to 10 are answered yes, loops or none, and then it is the log's.
   pub count_exactly : (k : ℕ) → (count_answer r ≡ given k) ↔ (((n : ℕ) × (t : ℕ) × (questions m l ≡ given (n, t))) × (link_count (graph_of l) ≡ k))
   count_exactly k = (
@@ -453,7 +452,7 @@ module _ (m : Ceilings) (l : List ℕ) (r : LinkCount) (answer : count_answer r 
       let same = then_refused (questions m l) (link_count (graph_of l)) q p in
       (λ e. same.0 (sym answer ∙ e), λ e. answer ∙ same.1 e)
 
-module _ (m : Ceilings) (l : List ℕ) (r : LinkCount) (answer : count_answer r ≡ count_asked m l) (k : ℕ) (e : count_answer r ≡ given k) where
+module _ (m : Ceilings) (l : List ℕ) (r : Result ℕ Refusal) (answer : count_answer r ≡ count_asked m l) (k : ℕ) (e : count_answer r ≡ given k) where
   -- what the proofs below cite
   counted : link_count (graph_of l) ≡ k
   counted = ((count_exactly m l r answer k).0 e).1
@@ -472,13 +471,13 @@ module _ (m : Ceilings) (l : List ℕ) (r : LinkCount) (answer : count_answer r 
       )
 
   -- It is the count of to words of the fair copy, whichever call gives that.
-  pub count_fair : (m₂ : Ceilings) (o w o' w' : List ℕ) (r₂ : CopyOutcome) → CopyLeft m₂ l o w o' w' r₂ → (c : ℕ) → copy_answer r₂ ≡ given c
+  pub count_fair : (m₂ : Ceilings) (o w o' w' : List ℕ) (r₂ : Result ℕ Refusal) → CopyLeft m₂ l o w o' w' r₂ → (c : ℕ) → copy_answer r₂ ≡ given c
       → questions m₂ (take c o') ≡ given ((graph_of l).n, k)
   count_fair m₂ o w o' w' r₂ left c e₂ =
       let copy = copies.given_left m₂ l o w o' w' r₂ c left e₂ in
       rw (copy.words, ← counted) (fair.copy_count m₂ l _ _ copy.read)
 
   -- Another log with the same links, at any ceilings, has the same count.
-  pub counts_equal : (m₂ : Ceilings) (l₂ : List ℕ) (r₂ : LinkCount) → count_answer r₂ ≡ count_asked m₂ l₂ → (k₂ : ℕ) → count_answer r₂ ≡ given k₂
+  pub counts_equal : (m₂ : Ceilings) (l₂ : List ℕ) (r₂ : Result ℕ Refusal) → count_answer r₂ ≡ count_asked m₂ l₂ → (k₂ : ℕ) → count_answer r₂ ≡ given k₂
       → SameLinks (graph_of l) (graph_of l₂) → k ≡ k₂
   counts_equal m₂ l₂ r₂ answer₂ k₂ e₂ same = sym counted ∙ graphs.count_same same ∙ ((count_exactly m₂ l₂ r₂ answer₂ k₂).0 e₂).1
