@@ -2,18 +2,19 @@
 use mathlib.Core.Path.{◌≡◌, refl, sym, subst, ◌∙◌}
 use mathlib.Core.Logic.{◌≢◌}
 use mathlib.Core.List.{List}
-use Prim.Native.Nat.{ℕ, zero, suc, ◌+◌, ◌/◌, ◌%◌, ◌≤◌, ◌<◌}
+use Prim.Native.Nat.{ℕ, zero, suc, ◌+◌, ◌-◌, ◌/◌, ◌%◌, ◌≤◌, ◌<◌}
 use native.Mathlib.Omega.{arith}
 use native.Mathlib.Numerals.{add-one}
-use lib.ListN.{length}
+use lib.ListN.{length, take, drop}
 use Rattle.std.proofs.Common.{Bor, MutBor}
 use Rattle.paths.specs.Graph.{Graph}
 use Rattle.logs.specs.Content.{least_pause}
 use Rattle.logs.specs.Log.{content_of, graph_of, PassedLog}
-use Rattle.copying.specs.FairCopy.{linked_to}
+use Rattle.copying.specs.FairCopy.{linked_to, copy_words}
 use Rattle.copying.specs.Copying.{block_words, BlockMarks, GroupWritten}
 use Rattle.copying.specs.Calls.{RoomFor, CalledBelow, WritesGroups}
 use Rattle.copying.proofs.Rows.{passed_few, next_block}
+use Rattle.copying.proofs.Copies.{Copying, copying_room}
 
 -- calls write the groups if what they need before the group of an episode, they leave for the next
 module _ {F : Type 0} (pre : F → ℕ → MutBor (List ℕ) → Type 0) (step : F → ℕ → MutBor (List ℕ) → ℕ → MutBor (List ℕ) → F → Type 0)
@@ -32,6 +33,21 @@ module _ {F : Type 0} (pre : F → ℕ → MutBor (List ℕ) → Type 0) (step :
         may = λ a e o before h room. may a e o h (ready a f e first (omega arith) before) room;
         writes = λ a r e e' o o' before h room s. (writes a r e e' o o' h (ready a f e first (omega arith) before) room s).1;
       }
+
+-- the next call, for the group of `a`, behind those below
+module _ {F : Type 0} {pre : F → ℕ → MutBor (List ℕ) → Type 0} {step : F → ℕ → MutBor (List ℕ) → ℕ → MutBor (List ℕ) → F → Type 0}
+    {pause : ℕ → ℕ → ℕ} {g : Graph} {f e : F} {o o' : List ℕ} {words links a : ℕ} (calls : WritesGroups pre step pause g f)
+    (fits : length (copy_words pause g) ≤ length o) (before : CalledBelow pre step pause g f a e) (s : Copying pause g o o' words links a) (h : a < g.n)
+  where
+    pub next_may : (p : MutBor (List ℕ)) → p.now ≡ take (length o' - words) (drop words o') → pre e a p
+    next_may p at = calls.may a e p before h (rw at (copying_room s fits _ refl h))
+
+    module _ {r : ℕ} {p p' : MutBor (List ℕ)} {e' : F} (at : p.now ≡ take (length o' - words) (drop words o')) (call : step e a p r p' e') where
+      pub next_written : GroupWritten a (pause a) (linked_to a g.links g.n) p.now p'.now r
+      next_written = calls.writes a r e e' p p' before h (rw at (copying_room s fits _ refl h)) call
+
+      pub next_called : CalledBelow pre step pause g f (a + 1) e'
+      next_called = rw add-one (e, p, p', r, before, rw at (copying_room s fits _ refl h), call)
 
 -- what the calls for a fair copy hold: the log, its count of episodes, and the marks of a block
 abbrev pub Held : Type 0

@@ -9,6 +9,7 @@ use Rattle.copying.specs.Copying.{GroupWritten}
 abbrev pub RoomFor : (ℕ → ℕ → ℕ) → Graph → ℕ → List ℕ → Type 0
 RoomFor pause g a o = length (group a (pause a) (linked_to a g.links g.n)) < length o
 
+-- `pre f a o` says that `f` may be called for the group of `a`, `step f a o r o' f'` that such a call gives `r` and leaves `o'` and `f'`
 module _ {F : Type 0} (pre : F → ℕ → MutBor (List ℕ) → Type 0) (step : F → ℕ → MutBor (List ℕ) → ℕ → MutBor (List ℕ) → F → Type 0)
     (pause : ℕ → ℕ → ℕ) (g : Graph) where
   -- calls for the episodes below `a`, rising, each with room for its group, lead from `f` to `f'`

@@ -124,7 +124,7 @@ fn copy_row(log: &[u32], n: usize, a: usize, out: &mut [u32], w: &mut [u32]) -> 
 }
 
 // How many words a group of so many links has.
-pub fn group_words(links: usize) -> usize
+fn group_words(links: usize) -> usize
     requires { links < 2 ^ 28 }
     ensures { result ≡ group_length links }
 {
