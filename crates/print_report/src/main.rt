@@ -3,54 +3,49 @@
 
 mod show;
 
-use input::Taken;
-use link_count::LinkCount;
-use logs::Reading;
+use logs::Refusal;
 use report::Outcome;
 use std::io;
 
-// The first `count` words, or all where there are fewer.
-fn first(words: &[u32], count: usize) -> &[u32] {
-    if count < words.len() {
-        &words[0..count]
-    } else {
-        words
-    }
+// A log that passes, and what is counted of it: its episodes and its different links.
+#[derive(Clone, Copy)]
+struct Passed<'a> {
+    log: &'a [u32],
+    episodes: usize,
+    links: usize,
 }
 
-// Prints the report on a log that passes, with `n` episodes and `links` different links, or its loop.
-fn report_on(rt: &impl Print, log: &[u32], n: usize, links: usize) -> io::Result<()> {
+// Asks questions 14 and 15 of the bytes and 1 to 10 of their words, which stand in `words` then, and counts the links.
+fn asked<'a>(bytes: &[u8], words: &'a mut [u32]) -> Result<Passed<'a>, Refusal> {
+    let count = input::words_of(bytes, words)?;
+    let log = &words[..count];
+    let episodes = logs::read(log)?.episodes;
+    let links = link_count::link_count(log)?;
+    Ok(Passed {
+        log,
+        episodes,
+        links,
+    })
+}
+
+// Prints the report on a log that passes, or its loop.
+fn report_on(rt: &impl Print, passed: Passed) -> io::Result<()> {
     let mut out = [0u32; 10502];
-    let mut work = [0u32; 16384];
-    match report::report(log, &mut out, &mut work) {
-        Outcome::Report(count) => show::report(rt, n, links, first(&out, count)),
-        Outcome::Loop(length) => show::cycle(rt, length, first(&out[1..], length)),
-        Outcome::Refused(number, place) => show::refusal(rt, number, place),
+    let mut work = [0u32; report::WORK_WORDS];
+    match report::report(passed.log, &mut out, &mut work) {
+        Outcome::Report(count) => show::report(rt, passed.episodes, passed.links, &out[..count]),
+        // Behind the words of the loop the output is zero, which is no step.
+        Outcome::Loop(length) => show::cycle(rt, length, &out),
+        Outcome::Refused(number, place) => println!(rt; "refused {number} at {place}"),
     }
 }
 
-// Counts the different links of a log with `n` episodes, and prints the rest of the answer.
-fn count(rt: &impl Print, log: &[u32], n: usize) -> io::Result<()> {
-    match link_count::link_count(log) {
-        LinkCount::Counted(links) => report_on(rt, log, n, links),
-        LinkCount::Refused(number, place) => show::refusal(rt, number, place),
-    }
-}
-
-// Asks questions 1 to 10 of a log, and prints the rest of the answer.
-fn read(rt: &impl Print, log: &[u32]) -> io::Result<()> {
-    match logs::read(log) {
-        Reading::Passed(n, _) => count(rt, log, n),
-        Reading::Refused(number, place) => show::refusal(rt, number, place),
-    }
-}
-
-// Asks questions 14 and 15 of the bytes, and prints the rest of the answer.
-fn take(rt: &impl Print, bytes: &[u8]) -> io::Result<()> {
+// Prints the report on the log of these bytes, or its refusal.
+fn answer(rt: &impl Print, bytes: &[u8]) -> io::Result<()> {
     let mut words = [0u32; input::MOST_BYTES / 4];
-    match input::words_of(bytes, &mut words) {
-        Taken::Words(count) => read(rt, first(&words, count)),
-        Taken::Refused(number, place) => show::refusal(rt, number, place),
+    match asked(bytes, &mut words) {
+        Ok(passed) => report_on(rt, passed),
+        Err(refusal) => println!(rt; "{refusal}"),
     }
 }
 
@@ -58,7 +53,8 @@ fn main(rt: HostRuntime) -> io::Result<()> {
     // Longer than the longest log that passes: a full buffer is refused, whatever stands behind it.
     let mut buffer = [0u8; 65536];
     match input::read_all(&mut rt.stdin(), &mut buffer) {
-        Ok(count) => take(&rt, &buffer[..count]),
-        Err(_) => show::unreadable(&rt),
+        Ok(count) => answer(&rt, &buffer[..count]),
+        // Nothing of a report is printed then.
+        Err(_) => eprintln!(rt; "standard input cannot be read"),
     }
 }
