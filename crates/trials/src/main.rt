@@ -6,16 +6,18 @@
 mod full;
 mod lines;
 mod show;
-mod words;
 
 use std::io;
 
 fn main(rt: HostRuntime) -> io::Result<()> {
     let mut buffer = [0u8; 65536];
     let count = input::read_all(&mut rt.stdin(), &mut buffer)?;
-    lines::all(&rt, &buffer[..count])?;
+    match str::from_utf8(&buffer[..count]) {
+        Ok(text) => lines::all(&rt, text)?,
+        Err(_) => println!(rt; "stdin is no text")?,
+    }
     if count == buffer.len() {
-        show::write(&rt, b"stdin is too long\n")?;
+        println!(rt; "stdin is too long")?;
     }
     full::one_group(&rt)?;
     full::last_too_large(&rt)?;

@@ -1,12 +1,9 @@
-// What a call answered, as a line.
-ghost use Rattle.std.specs.Prelude.{◌≤◌, length};
+// The calls that are tried, and what each answers, as a line.
+ghost use Rattle.std.specs.Prelude.{◌≤◌};
 
-use fair_copy::CopyOutcome;
-use link_count::LinkCount;
-use logs::Reading;
-use report::Outcome;
-use std::io;
-use trimmed_copy::TrimOutcome;
+use logs::{Reading, Reason, Refusal};
+use report::{Outcome, WORK_WORDS};
+use std::{fmt, io};
 
 // The services that write to a lent output.
 #[derive(Clone, Copy)]
@@ -16,197 +13,170 @@ pub enum Service {
     TrimmedCopy,
 }
 
-pub fn write(rt: &impl Print, text: &[u8]) -> io::Result<()> {
-    rt.write_all(text)
-}
-
-pub fn end_line(rt: &impl Print) -> io::Result<()> {
-    println!(rt)
-}
-
-fn write_number(rt: &impl Print, x: usize) -> io::Result<()> {
-    print!(rt; "{x}")
-}
-
-// A text, and a number behind it.
-fn write_figure(rt: &impl Print, text: &[u8], x: usize) -> io::Result<()> {
-    write(rt, text)?;
-    write_number(rt, x)
-}
-
-fn write_refusal(rt: &impl Print, number: u32, place: usize) -> io::Result<()> {
-    write_figure(rt, b"refused ", number as usize)?;
-    write_figure(rt, b" at ", place)
-}
-
-// The answer of the reading, on the line that `name` begins.
-pub fn reading(rt: &impl Print, name: &[u8], words: &[u32]) -> io::Result<()> {
-    write(rt, name)?;
-    write(rt, b": ")?;
-    match logs::read(words) {
-        Reading::Passed(n, count) => {
-            write_figure(rt, b"episodes ", n)?;
-            write_figure(rt, b" to words ", count)?;
-        }
-        Reading::Refused(number, place) => write_refusal(rt, number, place)?,
+// The start of the line of a call.
+impl fmt::Display for Service {
+    fn fmt<W: fmt::Write>(&self, f: &mut fmt::Formatter<W>) -> fmt::Result {
+        f.write_str(match self {
+            Service::Report => "report on",
+            Service::FairCopy => "copy of",
+            Service::TrimmedCopy => "trim of",
+        })
     }
-    end_line(rt)
+}
+
+// A call of a service with so many output words and so many work words lent.
+#[derive(Clone, Copy)]
+pub struct Call {
+    pub service: Service,
+    pub lent: usize,
+    pub work: usize,
+    ghost within: { (lent ≤ 64) × (work ≤ 16400) },
+}
+
+// What is asked for.
+#[derive(Clone, Copy)]
+pub enum Asked {
+    Reading,
+    Links,
+    Thread(usize),
+    Call(Call),
+}
+
+// What is asked for of some words, with a name for the line of the answer.
+#[derive(Clone, Copy)]
+pub struct Trial<'a> {
+    pub asked: Asked,
+    pub name: &'a str,
+    pub words: &'a [u32],
+}
+
+impl Trial<'_> {
+    // Makes the call, and prints the line of its answer.
+    pub fn make(self, rt: &impl Print) -> io::Result<()> {
+        let name = self.name;
+        let words = self.words;
+        match self.asked {
+            Asked::Reading => reading(rt, name, words),
+            Asked::Links => links(rt, name, words),
+            Asked::Thread(i) => {
+                let thread = Thread { report: words, i };
+                println!(rt; "thread {i} of {name}: {thread}")
+            }
+            Asked::Call(call) => call.make(rt, name, words),
+        }
+    }
+}
+
+// The answer of the reading.
+pub fn reading(rt: &impl Print, name: &str, words: &[u32]) -> io::Result<()> {
+    match logs::read(words) {
+        Ok(Reading { episodes, to_words }) => {
+            println!(rt; "{name}: episodes {episodes} to words {to_words}")
+        }
+        Err(refusal) => println!(rt; "{name}: {refusal}"),
+    }
+}
+
+// The link count.
+pub fn links(rt: &impl Print, name: &str, words: &[u32]) -> io::Result<()> {
+    match link_count::link_count(words) {
+        Ok(links) => println!(rt; "links of {name}: links {links}"),
+        Err(refusal) => println!(rt; "links of {name}: {refusal}"),
+    }
 }
 
 // What each word of the buffers holds before a call.
 const MARK: u32 = 0xABCD_EF01;
 
-fn write_word(rt: &impl Print, w: u32) -> io::Result<()> {
-    print!(rt; " {w:08x}")
-}
+// How many words are not as they should be, where some are not.
+#[derive(Clone, Copy)]
+struct Strays(usize);
 
-// The first `count` words.
-fn write_words(rt: &impl Print, buffer: &[u32], count: usize) -> io::Result<()> {
-    for w in buffer.iter().take(count) {
-        write_word(rt, *w)?;
+impl Strays {
+    // Of words that should be `x`.
+    fn among(words: &[u32], x: u32) -> Strays {
+        Strays(words.iter().filter(|w| **w != x).count())
     }
-    Ok(())
 }
 
-fn write_number_of(rt: &impl Print, w: u32) -> io::Result<()> {
-    write_figure(rt, b" ", logs::number_of(w))
-}
-
-// The numbers of the words.
-fn write_numbers(rt: &impl Print, words: &[u32]) -> io::Result<()> {
-    for w in words {
-        write_number_of(rt, *w)?;
+impl fmt::Display for Strays {
+    fn fmt<W: fmt::Write>(&self, f: &mut fmt::Formatter<W>) -> fmt::Result {
+        if self.0 == 0 {
+            return Ok(());
+        }
+        write!(f, "; words not as they should be: {}", self.0)
     }
-    Ok(())
-}
-
-// 1 where the two words differ.
-fn differ(a: u32, b: u32) -> usize
-    ensures { result ≤ 1 }
-{
-    if a == b { 0 } else { 1 }
-}
-
-// How many of the words are not `x`.
-fn others(buffer: &[u32], x: u32) -> usize {
-    let mut count = 0;
-    for i in 0..buffer.len() {
-        count += differ(buffer[i], x);
-    }
-    count
-}
-
-// Says so where some of the words are not `x`.
-fn expect(rt: &impl Print, words: &[u32], x: u32) -> io::Result<()> {
-    let count = others(words, x);
-    if count != 0 {
-        write_figure(rt, b"; words not as they should be: ", count)?;
-    }
-    Ok(())
-}
-
-// Says so where the first 16,384 work words are not zero, or those behind them do not hold the mark.
-fn expect_cleared(rt: &impl Print, scratch: &[u32]) -> io::Result<()>
-    requires { 16384 ≤ length scratch.now }
-{
-    expect(rt, &scratch[0..16384], 0)?;
-    expect(rt, &scratch[16384..], MARK)
-}
-
-// Says so where some word of the buffers does not hold the mark.
-fn expect_kept(rt: &impl Print, out: &[u32; 64], scratch: &[u32; 16400]) -> io::Result<()> {
-    expect(rt, out, MARK)?;
-    expect(rt, scratch, MARK)
-}
-
-// The first `count` words of the output; says so where those behind them do not hold the mark.
-fn write_output(rt: &impl Print, out: &[u32], count: usize) -> io::Result<()> {
-    write_words(rt, out, count)?;
-    if count <= out.len() {
-        expect(rt, &out[count..], MARK)?;
-    }
-    Ok(())
 }
 
 // What asking for thread `i` gives: its episodes, or the refusal; and how many words the stretch has where it should be empty.
-fn write_thread(rt: &impl Print, report: &[u32], i: usize) -> io::Result<()> {
-    let number = threads::thread_number(report, i);
-    let steps = threads::thread_steps(report, i);
-    if number == 0 {
-        write(rt, b"thread")?;
-        write_numbers(rt, steps)?;
-    } else {
-        write_figure(rt, b"refused ", number as usize)?;
-        if steps.len() != 0 {
-            write_figure(rt, b"; words not as they should be: ", steps.len())?;
+#[derive(Clone, Copy)]
+struct Thread<'a> {
+    report: &'a [u32],
+    i: usize,
+}
+
+impl fmt::Display for Thread<'_> {
+    fn fmt<W: fmt::Write>(&self, f: &mut fmt::Formatter<W>) -> fmt::Result {
+        let steps = threads::thread_steps(self.report, self.i);
+        if let Err(refusal) = threads::find_thread(self.report, self.i) {
+            return write!(f, "refused {}{}", refusal.number(), Strays(steps.len()));
         }
+        f.write_str("thread")?;
+        for w in steps {
+            write!(f, " {}", logs::number_of(*w))?;
+        }
+        Ok(())
+    }
+}
+
+// Each thread of a report, and what is answered behind the last.
+fn write_threads(rt: &impl Print, report: &[u32]) -> io::Result<()> {
+    let Some(head) = report.first() else {
+        return Ok(());
+    };
+    for i in 0..=logs::number_of(*head) {
+        print!(rt; "; {}", Thread { report, i })?;
     }
     Ok(())
 }
 
-fn write_next(rt: &impl Print, report: &[u32], i: usize) -> io::Result<()> {
-    write(rt, b"; ")?;
-    write_thread(rt, report, i)
+// The words that a call wrote to the output; says so where those behind them do not hold the mark.
+#[derive(Clone, Copy)]
+struct Written<'a> {
+    words: &'a [u32],
+    behind: &'a [u32],
 }
 
-// What asking for the first `count` threads gives.
-fn write_threads(rt: &impl Print, report: &[u32], count: usize) -> io::Result<()> {
-    for i in 0..count {
-        write_next(rt, report, i)?;
-    }
-    Ok(())
-}
-
-// Each thread of a report of `count` words, and what is answered behind the last.
-fn write_all_threads(rt: &impl Print, out: &[u32], count: usize) -> io::Result<()> {
-    if out.len() < count {
-        return Ok(());
-    }
-    if count == 0 {
-        return Ok(());
-    }
-    write_threads(rt, &out[0..count], logs::number_of(out[0]) + 1)
-}
-
-// The start of a line: the call, and the name of the trial.
-fn write_start(rt: &impl Print, call: &[u8], name: &[u8]) -> io::Result<()> {
-    write(rt, call)?;
-    write(rt, name)?;
-    write(rt, b": ")
-}
-
-// The link count, as a line.
-pub fn links(rt: &impl Print, name: &[u8], words: &[u32]) -> io::Result<()> {
-    write_start(rt, b"links of ", name)?;
-    match link_count::link_count(words) {
-        LinkCount::Counted(links) => write_figure(rt, b"links ", links)?,
-        LinkCount::Refused(number, place) => write_refusal(rt, number, place)?,
-    }
-    end_line(rt)
-}
-
-// What asking for thread `i` of any words gives, on the line that `name` begins.
-pub fn thread(rt: &impl Print, name: &[u8], report: &[u32], i: usize) -> io::Result<()> {
-    write_figure(rt, b"thread ", i)?;
-    write_start(rt, b" of ", name)?;
-    write_thread(rt, report, i)?;
-    end_line(rt)
-}
-
-// The outcome of a fair copy call; a copy is given as a report is.
-fn ask_copy(log: &[u32], out: &mut [u32], work: &mut [u32]) -> Outcome {
-    match fair_copy::fair_copy(log, out, work) {
-        CopyOutcome::Copied(count) => Outcome::Report(count),
-        CopyOutcome::Refused(number, place) => Outcome::Refused(number, place),
+impl<'a> Written<'a> {
+    // The first `count` words, or all where there are fewer.
+    fn first(out: &'a [u32], count: usize) -> Written<'a> {
+        let (words, behind) = out.split_at(count.min(out.len()));
+        Written { words, behind }
     }
 }
 
-// The outcome of a trimmed copy call, in the same way.
-fn ask_trimmed(log: &[u32], out: &mut [u32], work: &mut [u32]) -> Outcome {
-    match trimmed_copy::trimmed_copy(log, out, work) {
-        TrimOutcome::Trimmed(count) => Outcome::Report(count),
-        TrimOutcome::Loop(length) => Outcome::Loop(length),
-        TrimOutcome::Refused(number, place) => Outcome::Refused(number, place),
+impl fmt::Display for Written<'_> {
+    fn fmt<W: fmt::Write>(&self, f: &mut fmt::Formatter<W>) -> fmt::Result {
+        f.write_str("words")?;
+        for w in self.words {
+            write!(f, " {w:08x}")?;
+        }
+        write!(f, "{}", Strays::among(self.behind, MARK))
+    }
+}
+
+// Says so where the first 16,384 work words are not zero, or those behind them do not hold the mark.
+fn write_cleared(rt: &impl Print, scratch: &[u32; 16400]) -> io::Result<()> {
+    let (used, behind) = scratch.split_at(WORK_WORDS);
+    print!(rt; "{}{}", Strays::among(used, 0), Strays::among(behind, MARK))
+}
+
+// The outcome of a copy, given as that of a report is.
+fn copied(answer: Result<usize, Refusal>) -> Outcome {
+    match answer {
+        Ok(count) => Outcome::Report(count),
+        Err(refusal) if refusal.reason == Reason::Loop => Outcome::Loop(refusal.place),
+        Err(refusal) => Outcome::from(refusal),
     }
 }
 
@@ -214,56 +184,12 @@ fn ask_trimmed(log: &[u32], out: &mut [u32], work: &mut [u32]) -> Outcome {
 fn ask(service: Service, log: &[u32], out: &mut [u32], work: &mut [u32]) -> Outcome {
     match service {
         Service::Report => report::report(log, out, work),
-        Service::FairCopy => ask_copy(log, out, work),
-        Service::TrimmedCopy => ask_trimmed(log, out, work),
+        Service::FairCopy => copied(fair_copy::fair_copy(log, out, work)),
+        Service::TrimmedCopy => copied(trimmed_copy::trimmed_copy(log, out, work)),
     }
 }
 
-// The words of a report or of a copy, and how many words of the buffers are not as they should be; of a report, each thread too.
-fn write_answer(
-    rt: &impl Print,
-    service: Service,
-    out: &[u32; 64],
-    count: usize,
-    scratch: &[u32; 16400],
-) -> io::Result<()> {
-    write(rt, b"words")?;
-    write_output(rt, out, count)?;
-    expect_cleared(rt, scratch)?;
-    if let Service::Report = service {
-        write_all_threads(rt, out, count)?;
-    }
-    Ok(())
-}
-
-// A loop of `length` episodes, and how many words of the buffers are not as they should be.
-fn write_loop(
-    rt: &impl Print,
-    out: &[u32; 64],
-    length: usize,
-    scratch: &[u32; 16400],
-) -> io::Result<()> {
-    write_refusal(rt, 13, length)?;
-    if length < out.len() {
-        write(rt, b", words")?;
-        write_output(rt, out, length + 1)?;
-    }
-    expect_cleared(rt, scratch)
-}
-
-// A refusal, and how many words of the buffers are not as they were.
-fn write_refused(
-    rt: &impl Print,
-    number: u32,
-    place: usize,
-    out: &[u32; 64],
-    scratch: &[u32; 16400],
-) -> io::Result<()> {
-    write_refusal(rt, number, place)?;
-    expect_kept(rt, out, scratch)
-}
-
-// The outcome of a call, what it wrote, and how many words of the buffers are not as they should be.
+// The outcome of a call, what it wrote, and how many words of the buffers are not as they should be; of a report, each thread too.
 fn write_outcome(
     rt: &impl Print,
     service: Service,
@@ -272,46 +198,43 @@ fn write_outcome(
     scratch: &[u32; 16400],
 ) -> io::Result<()> {
     match outcome {
-        Outcome::Report(count) => write_answer(rt, service, out, count, scratch),
-        Outcome::Loop(length) => write_loop(rt, out, length, scratch),
-        Outcome::Refused(number, place) => write_refused(rt, number, place, out, scratch),
+        Outcome::Report(count) => {
+            let written = Written::first(out, count);
+            print!(rt; "{written}")?;
+            write_cleared(rt, scratch)?;
+            if let Service::Report = service {
+                write_threads(rt, written.words)?;
+            }
+            Ok(())
+        }
+        Outcome::Loop(length) => {
+            let written = Written::first(out, length.saturating_add(1));
+            print!(rt; "{}, {written}", Reason::Loop.at(length))?;
+            write_cleared(rt, scratch)
+        }
+        Outcome::Refused(number, place) => {
+            let outs = Strays::among(out, MARK);
+            let works = Strays::among(scratch, MARK);
+            print!(rt; "refused {number} at {place}{outs}{works}")
+        }
     }
 }
 
-// The start of the line of a call.
-fn write_call(rt: &impl Print, service: Service, name: &[u8]) -> io::Result<()> {
-    match service {
-        Service::Report => write_start(rt, b"report on ", name),
-        Service::FairCopy => write_start(rt, b"copy of ", name),
-        Service::TrimmedCopy => write_start(rt, b"trim of ", name),
-    }
-}
-
-// What a call answers and leaves, with `lent` of 64 output words and `work` of 16,400 work words. Before it all hold the mark.
-pub fn call(
-    rt: &impl Print,
-    service: Service,
-    name: &[u8],
-    log: &[u32],
-    lent: usize,
-    work: usize,
-) -> io::Result<()>
-    requires { (lent ≤ 64) × (work ≤ 16400) }
-{
-    write_call(rt, service, name)?;
-    let mut out = [MARK; 64];
-    let mut scratch = [MARK; 16400];
-    let outcome = ask(service, log, &mut out[0..lent], &mut scratch[0..work]);
-    write_outcome(rt, service, outcome, &out, &scratch)?;
-    end_line(rt)
-}
-
-// An outcome without the words.
-fn write_count(rt: &impl Print, outcome: Outcome) -> io::Result<()> {
-    match outcome {
-        Outcome::Report(count) => write_figure(rt, b"count ", count),
-        Outcome::Loop(length) => write_refusal(rt, 13, length),
-        Outcome::Refused(number, place) => write_refusal(rt, number, place),
+impl Call {
+    // What the call answers and leaves, of 64 output words and 16,400 work words. Before it all hold the mark.
+    fn make(self, rt: &impl Print, name: &str, log: &[u32]) -> io::Result<()> {
+        let service = self.service;
+        let mut out = [MARK; 64];
+        let mut scratch = [MARK; 16400];
+        let outcome = ask(
+            service,
+            log,
+            &mut out[..self.lent],
+            &mut scratch[..self.work],
+        );
+        print!(rt; "{service} {name}: ")?;
+        write_outcome(rt, service, outcome, &out, &scratch)?;
+        println!(rt)
     }
 }
 
@@ -327,12 +250,14 @@ fn enough(service: Service) -> usize
 }
 
 // The outcome of a call alone, of a log of any size.
-pub fn outcome(rt: &impl Print, service: Service, name: &[u8], log: &[u32]) -> io::Result<()> {
-    write_call(rt, service, name)?;
-    let lent = enough(service);
+pub fn outcome(rt: &impl Print, service: Service, name: &str, log: &[u32]) -> io::Result<()> {
     let mut out = [MARK; 10502];
-    let mut work = [MARK; 16384];
-    let outcome = ask(service, log, &mut out[0..lent], &mut work);
-    write_count(rt, outcome)?;
-    end_line(rt)
+    let mut work = [MARK; WORK_WORDS];
+    match ask(service, log, &mut out[..enough(service)], &mut work) {
+        Outcome::Report(count) => println!(rt; "{service} {name}: count {count}"),
+        Outcome::Loop(length) => println!(rt; "{service} {name}: {}", Reason::Loop.at(length)),
+        Outcome::Refused(number, place) => {
+            println!(rt; "{service} {name}: refused {number} at {place}")
+        }
+    }
 }
