@@ -1,5 +1,5 @@
 -- Calls that write the groups of a graph, episode by episode.
-use mathlib.Core.Path.{◌≡◌, refl, sym, subst, ◌∙◌}
+use mathlib.Core.Path.{◌≡◌, refl, subst, ◌∙◌}
 use mathlib.Core.Logic.{◌≢◌}
 use mathlib.Core.List.{List}
 use Prim.Native.Nat.{ℕ, zero, suc, ◌+◌, ◌-◌, ◌/◌, ◌%◌, ◌≤◌, ◌<◌}
@@ -9,11 +9,13 @@ use lib.ListN.{length, take, drop}
 use Rattle.std.proofs.Common.{Bor, MutBor}
 use Rattle.paths.specs.Graph.{Graph}
 use Rattle.logs.specs.Content.{least_pause}
-use Rattle.logs.specs.Log.{content_of, graph_of, PassedLog}
-use Rattle.copying.specs.FairCopy.{linked_to, copy_words}
+use Rattle.logs.specs.Log.{content_of, graph_of}
+use Rattle.logs.specs.declared.passed.Log.{Log}
+use Rattle.logs.proofs.Laws.{graph_episodes}
+use Rattle.copying.specs.FairCopy.{linked_to, group, copy_words}
 use Rattle.copying.specs.Copying.{block_words, BlockMarks, GroupWritten}
 use Rattle.copying.specs.Calls.{RoomFor, CalledBelow, WritesGroups}
-use Rattle.copying.proofs.Rows.{passed_few, next_block}
+use Rattle.copying.proofs.Rows.{next_block}
 use Rattle.copying.proofs.Copies.{Copying, copying_room}
 
 -- calls write the groups if what they need before the group of an episode, they leave for the next
@@ -49,62 +51,59 @@ module _ {F : Type 0} {pre : F → ℕ → MutBor (List ℕ) → Type 0} {step :
       pub next_called : CalledBelow pre step pause g f (a + 1) e'
       next_called = rw add-one (e, p, p', r, before, rw at (copying_room s fits _ refl h), call)
 
--- what the calls for a fair copy hold: the log, its count of episodes, and the marks of a block
+-- what the calls for a fair copy hold: the log, and the marks of a block
 abbrev pub Held : Type 0
-Held = Bor (List ℕ) × Bor ℕ × MutBor (List ℕ)
+Held = Bor Log × MutBor (List ℕ)
 
 -- what they need for the group of `a`
 pub record Asked (f : Held) (a : ℕ) (o : List ℕ) : Type 0 where
-  pub passed : PassedLog f.0.now
-  pub count : (graph_of f.0.now).n ≡ f.1.now
-  pub few : f.1.now ≤ 256
-  pub long : length f.2.now ≡ block_words
-  pub marks : a % 64 ≢ 0 → BlockMarks (a / 64) (content_of f.0.now) f.2.now
-  pub below : a < f.1.now
-  pub room : RoomFor (least_pause (content_of f.0.now)) (graph_of f.0.now) a o
+  pub few : f.0.now.episodes ≤ 256
+  pub long : length f.1.now ≡ block_words
+  pub marks : a % 64 ≢ 0 → BlockMarks (a / 64) (content_of f.0.now.words.now) f.1.now
+  pub below : a < f.0.now.episodes
+  pub room : let l = f.0.now.words.now in
+      length (group a (least_pause (content_of l) a) (linked_to a (graph_of l).links f.0.now.episodes)) < length o
 
 -- and what they leave
 pub record Left (f : Held) (a : ℕ) (o : List ℕ) (r : ℕ) (o' : List ℕ) (f' : Held) : Type 0 where
   pub log : f'.0.now ≡ f.0.now
-  pub count : f'.1.now ≡ f.1.now
-  pub size : length f'.2.now ≡ length f.2.now
-  pub marks : BlockMarks (a / 64) (content_of f.0.now) f'.2.now
-  pub group : GroupWritten a (least_pause (content_of f.0.now) a) (linked_to a (graph_of f.0.now).links f.1.now) o o' r
+  pub size : length f'.1.now ≡ length f.1.now
+  pub marks : BlockMarks (a / 64) (content_of f.0.now.words.now) f'.1.now
+  pub group : let l = f.0.now.words.now in
+      GroupWritten a (least_pause (content_of l) a) (linked_to a (graph_of l).links f.0.now.episodes) o o' r
 
 -- what stands before the group of `a`
-record Ready (l : List ℕ) (n a : ℕ) (f : Held) : Type 0 where
+record Ready (l : Log) (a : ℕ) (f : Held) : Type 0 where
   log : f.0.now ≡ l
-  count : f.1.now ≡ n
-  long : length f.2.now ≡ block_words
-  marks : a % 64 ≢ 0 → BlockMarks (a / 64) (content_of l) f.2.now
+  long : length f.1.now ≡ block_words
+  marks : a % 64 ≢ 0 → BlockMarks (a / 64) (content_of l.words.now) f.1.now
 
 -- then they write the groups of the log's graph
 pub fair_groups : (pre : Held → ℕ → MutBor (List ℕ) → Type 0) (step : Held → ℕ → MutBor (List ℕ) → ℕ → MutBor (List ℕ) → Held → Type 0)
     → ((a : ℕ) (f : Held) (o : MutBor (List ℕ)) → Asked f a o.now → pre f a o)
     → ((a r : ℕ) (f f' : Held) (o o' : MutBor (List ℕ)) → step f a o r o' f' → Left f a o.now r o'.now f')
-    → (f : Held) → PassedLog f.0.now → (graph_of f.0.now).n ≡ f.1.now → length f.2.now ≡ block_words
-    → WritesGroups pre step (least_pause (content_of f.0.now)) (graph_of f.0.now) f
-fair_groups pre step may leave f passed count long =
-    writes_groups pre step (least_pause (content_of f.0.now)) (graph_of f.0.now) (Ready f.0.now f.1.now)
+    → (f : Held) → f.0.now.episodes ≤ 256 → length f.1.now ≡ block_words
+    → WritesGroups pre step (least_pause (content_of f.0.now.words.now)) (graph_of f.0.now.words.now) f
+fair_groups pre step may leave f few long =
+    let l = f.0.now in
+    let count : (graph_of l.words.now).n ≡ l.episodes = graph_episodes _ l.words.now l.episodes l.to_words l.passes in
+    writes_groups pre step (least_pause (content_of l.words.now)) (graph_of l.words.now) (Ready l)
     (λ a e o h s room.
     may a e o
     (record {
-      passed = rw s.log passed;
-      count = rw (s.log, s.count) count;
-      few = omega (arith, s.count, passed_few f.0.now passed);
+      few = rw s.log few;
       long = s.long;
       marks = rw s.log s.marks;
-      below = omega (arith, s.count);
-      room = rw s.log room;
+      below = rw (s.log, ← count) h;
+      room = rw (s.log, ← count) room;
     }))
     (λ a r e e' o o' h s room d.
     let left = leave a r e e' o o' d in (
       record {
         log = left.log ∙ s.log;
-        count = left.count ∙ s.count;
         long = left.size ∙ s.long;
-        marks = next_block a (content_of f.0.now) e'.2.now (rw s.log at left.marks);
+        marks = next_block a (content_of l.words.now) e'.1.now (rw s.log at left.marks);
       },
-      rw (s.log, s.count, sym count) at left.group,
+      rw (s.log, ← count) at left.group,
     ))
-    f (record { log = refl; count = refl; long = long; marks = λ ne. absurd (ne refl) })
+    f (record { log = refl; long = long; marks = λ ne. absurd (ne refl) })

@@ -4,26 +4,30 @@ use mathlib.Core.Logic.{◌≢◌, ◌⊎◌, ⊎_elim}
 use mathlib.Core.Bool.{Bool, true, false, not, true≢false}
 use mathlib.Core.List.Memᴰ.{head as here}
 use mathlib.Core.List.Memᴰ.{not-nil}
-use mathlib.Core.List.{List, [], ◌∷◌, ◌++◌, map, append-nil, Memᴰ as Mem}
+use mathlib.Core.List.{List, [], ◌∷◌, ◌++◌, map, append-nil, append_assoc, map-append, Memᴰ as Mem}
 use Prim.Native.Nat.{ℕ, zero, suc, ◌+◌, ◌-◌, ◌/◌, ◌%◌, ◌≤◌, ◌<◌, ◌^◌}
 use native.Mathlib.Decide.{ℕ_discrete}
+use native.Mathlib.Numerals.{add-one}
 use native.Mathlib.Omega.{arith}
 use lib.Dec.{eqb}
 use lib.ListN.{length, get_or, set, take, drop, replicate, length-set, length-drop, length-replicate, get_or-replicate}
-use lib.Seq.{length-take-le, get_or-take, get_or-drop, get_or-set_same, get_or-set_other}
+use lib.Seq.{take-suc, length-take-le, get_or-take, get_or-drop, get_or-set_same, get_or-set_other}
 use borrow.Author.Tests.{ne_eqb}
 use Rattle.order.specs.Order.{All}
 use Rattle.paths.proofs.Passing.{passing_equal}
 use Rattle.paths.specs.Links.{linked}
 use Rattle.paths.proofs.Links.{linked_mem, mem_linked}
-use Rattle.logs.specs.Words.{kind, to_episode, to_pause}
+use Rattle.logs.specs.Words.{to_episode, to_pause}
 use Rattle.logs.specs.Content.{Heard, Content, joins, pauses_of, least, least_pause}
-use Rattle.logs.specs.Log.{to_before_last, content_of, graph_of, PassedLog}
-use Rattle.logs.specs.Groups.{heard_before, nearest_from, ToWords, Starts}
-use Rattle.logs.proofs.Asked.{to_there}
+use Rattle.logs.specs.Log.{content_of}
+use Rattle.logs.specs.Groups.{heard_before, told, EpisodesBelow}
+use Rattle.logs.specs.Passing.{Given}
+use Rattle.logs.specs.declared.passed.Log.{Log}
+use Rattle.logs.specs.declared.passed.Group.{Group}
+use Rattle.logs.specs.declared.passed.Groups.{Groups}
 use Rattle.logs.proofs.Pauses.{pauses_append, pauses_one, pauses_none, pauses_heard, heard_pauses, link_heard, least_mem, least_more}
-use Rattle.logs.proofs.Laws.{graph_episodes, before_head, pass_to, heard_passed}
-use Rattle.logs.proofs.Walk.{no_words, words_more, along, nearest_same, first_here, from_passed, to_fits, next_here}
+use Rattle.logs.proofs.Laws.{graph_episodes, before_head, heard_passed}
+use Rattle.logs.proofs.Passing.{heard_group}
 use Rattle.writing.specs.Layout.{BeginsWith}
 use Rattle.copying.specs.FairCopy.{linked_to, group}
 use Rattle.copying.specs.Copying.{
@@ -33,7 +37,6 @@ use Rattle.copying.specs.Copying.{
   row_at,
   BlockMarks,
   Lowered,
-  content_before,
   GroupTaken,
   marked_at,
   marked,
@@ -87,9 +90,6 @@ pauses_other : (a b : ℕ) (h : Heard) (hs : List Heard) → ((a ≡ h.from) × 
 pauses_other a b h hs ne =
     pauses_append a b hs (h ∷ []) ∙ ap (λ (ps : List ℕ). pauses_of a b hs ++ ps) (pauses_none a b h ne) ∙ append-nil (pauses_of a b hs)
 
-pub passed_few : (l : List ℕ) → PassedLog l → (graph_of l).n ≤ 256
-passed_few l (m, n, t, e, few) = omega (arith, graph_episodes m l n t e)
-
 -- `n` episodes and these links
 abbrev content : ℕ → List Heard → Content
 content n hs = record { n = n; heard = hs }
@@ -121,76 +121,70 @@ marks_other : (block n : ℕ) (k : Heard) (hs : List Heard) (w : List ℕ) → k
 marks_other block n k hs w ne m a b h l = rw (pauses_other a b k hs (λ q. ne (omega (arith, q.0)))) (m a b h l)
 
 -- before the first to word of a group nothing is marked of it
-pub group_first : (block : ℕ) (l : List ℕ) (start : ℕ) (w : List ℕ) → to_before_last l start ≡ true → GroupTaken block l start start w w
-group_first block l start w e =
-    let there = to_there l start e in
-    record { words = no_words l start (omega (arith, there.0)); same_length = refl; marks = λ m. m }
+pub group_first : (block a : ℕ) (ws w : List ℕ) → GroupTaken block a (take 0 ws) w w
+group_first block a ws w = record { same_length = refl; marks = λ n hs few m. rw append-nil m }
 
--- in a group from the block, the link of the next to word is marked in the row of the nearest from word
-pub group_more : (l : List ℕ) (start p : ℕ) (w w' w'' : List ℕ) → PassedLog l → 0 < start → GroupTaken (nearest_from l start / 64) l start p w w'
-    → to_before_last l p ≡ true → Lowered (row_at (nearest_from l start) + to_episode (get_or l p 0)) (to_pause (get_or l p 0)) w' w''
-    → GroupTaken (nearest_from l start / 64) l start (p + 1) w w''
-group_more l start p w w' w'' passed behind s e d =
-    let before = s.words.start_before in
-    let more = (pass_to l p (omega arith) s.words.within (to_there l p e).1).0 in
-    let link : Heard = record { from = nearest_from l start; to = to_episode (get_or l p 0); pause = to_pause (get_or l p 0) } in
+-- one link more behind others
+told_more : (a i : ℕ) (ws : List ℕ) (hs : List Heard) → i < length ws
+    → hs ++ map (told a) (take (i + 1) ws) ≡ hs ++ map (told a) (take i ws) ++ told a (get_or ws i 0) ∷ []
+told_more a i ws hs h =
+    ap (λ q. hs ++ map (told a) q) (rw add-one (take-suc ws i 0 h)) ∙ ap (λ q. hs ++ q) (map-append (told a) (take i ws) (get_or ws i 0 ∷ []))
+    ∙ sym (append_assoc hs (map (told a) (take i ws)) (told a (get_or ws i 0) ∷ []))
+
+-- in a group from the block, the link of the next to word is marked in its row
+pub group_more : (a : ℕ) (ws : List ℕ) (i : ℕ) {w w' w'' : List ℕ} → EpisodesBelow 256 ws → i < length ws → GroupTaken (a / 64) a (take i ws) w w'
+    → Lowered (row_at a + to_episode (get_or ws i 0)) (to_pause (get_or ws i 0)) w' w'' → GroupTaken (a / 64) a (take (i + 1) ws) w w''
+group_more a ws i {w' = w'} {w'' = w''} below h s d =
     record {
-      words = words_more l start p s.words e;
       same_length = d.same_length ∙ s.same_length;
-      marks = λ m.
-          rw (more, nearest_same l start p s.words behind)
-          (marks_here (nearest_from l start / 64) (graph_of l).n link (heard_before l p) w' w'' (passed_few l passed)
-          (to_fits l passed start p behind s.words e) refl (s.marks m) d);
+      marks = λ n hs few m.
+          let more = marks_here (a / 64) n (told a (get_or ws i 0)) (hs ++ map (told a) (take i ws)) w' w'' few (below i h) refl (s.marks n hs few m) d in
+          subst (λ q. BlockMarks (a / 64) (content n q) w'') (sym (told_more a i ws hs h)) more;
     }
 
--- the to words of a group from another block are passed over
-pub group_passed : (block : ℕ) (l : List ℕ) (start r : ℕ) (w : List ℕ) → 0 < start → nearest_from l start / 64 ≢ block → ToWords l start r
-    → GroupTaken block l start r w w
-group_passed block l start r w behind other s =
-    record {
-      words = s;
-      same_length = refl;
-      marks = λ m. (along l start r s (λ p. BlockMarks block (content_before l p) w × (nearest_from l p ≡ nearest_from l start)) (m, refl) pass).0;
-    }
+-- those of a group from another block are passed over
+pub group_passed : (block a : ℕ) (ws w : List ℕ) → a / 64 ≢ block → GroupTaken block a ws w w
+group_passed block a ws w other = record { same_length = refl; marks = λ n hs few m. none n ws hs m }
   where
-    pass : (p : ℕ) → start ≤ p → p + 1 < length l → kind (get_or l p 0) ≡ 3
-        → BlockMarks block (content_before l p) w × (nearest_from l p ≡ nearest_from l start)
-        → BlockMarks block (content_before l (p + 1)) w × (nearest_from l (p + 1) ≡ nearest_from l start)
-    pass p before inner k (m, near) =
-        let (more, same) = pass_to l p (omega arith) (omega arith) k in
-        let link : Heard = record { from = nearest_from l p; to = to_episode (get_or l p 0); pause = to_pause (get_or l p 0) } in
-        (rw more (marks_other block (graph_of l).n link (heard_before l p) w (rw near other) m), same ∙ near)
+    none : (n : ℕ) (vs : List ℕ) (hs : List Heard) → BlockMarks block (content n hs) w → BlockMarks block (content n (hs ++ map (told a) vs)) w
+    none n [] hs m = rw append-nil m
+    none n (v ∷ vs) hs m =
+        rw append_assoc at (none n vs (hs ++ told a v ∷ []) (marks_other block n (told a v) hs w other m))
 
--- at place `p` a group starts or the last word stands, and the block marks the links of the words before it
-pub record Marking (l w w' : List ℕ) (block p : ℕ) : Type 0 where
-  pub here : Starts l p
+-- before the group at `s` the block marks the links of the words there
+pub record Marking (w w' : List ℕ) (block : ℕ) (s : Groups) : Type 0 where
   pub same_length : length w' ≡ length w
-  pub marks : BlockMarks block (content_before l p) w'
+  pub marks : BlockMarks block (content s.log.episodes (heard_before s.log.words.now s.at)) w'
 
-pub marking_start : (l w : List ℕ) (block : ℕ) → PassedLog l → length w ≡ block_words → w ≡ replicate (length w) 0 → Marking l w w block 1
-marking_start l w block passed long zeros =
-    let first = first_here l passed in
-    let within : 1 < length l = first.within in
+pub marking_start : (s : Groups) (w : List ℕ) (block : ℕ) → s.at ≡ 1 → s.log.episodes ≤ 256 → length w ≡ block_words → w ≡ replicate (length w) 0
+    → Marking w w block s
+marking_start s w block first few long zeros =
+    let within = s.here.within in
+    let none : heard_before s.log.words.now s.at ≡ [] = ap (heard_before s.log.words.now) first ∙ before_head s.log.words.now (omega arith) in
     record {
-      here = first;
       same_length = refl;
-      marks = rw (before_head l (omega arith)) (marks_none block (graph_of l).n w zeros (passed_few l passed) long);
+      marks = subst (λ q. BlockMarks block (content s.log.episodes q) w) (sym none) (marks_none block s.log.episodes w zeros few long);
     }
 
-pub marking_on : {l w w' w'' : List ℕ} {block p r : ℕ} → PassedLog l → Marking l w w' block p → p + 1 < length l → GroupTaken block l (p + 1) r w' w''
-    → to_before_last l r ≡ false → Marking l w w'' block r
-marking_on {l} {p = p} {r} passed s inner d other =
+pub marking_on : {w w' w'' : List ℕ} {block : ℕ} {s : Groups} {g : Group} {t : Groups} → Marking w w' block s → s.log.episodes ≤ 256 → Given s g t
+    → GroupTaken block g.from g.to_words.now w' w'' → Marking w w'' block t
+marking_on {w'' = w''} {block} {s} {g} {t} m few d k =
     record {
-      here = next_here l passed (p + 1) r (omega arith) d.words other;
-      same_length = d.same_length ∙ s.same_length;
-      marks = d.marks (rw (from_passed l passed p s.here inner).0 s.marks);
+      same_length = k.same_length ∙ m.same_length;
+      marks =
+          subst (λ (l : Log). BlockMarks block (content l.episodes (heard_before l.words.now t.at)) w'') (sym d.same)
+          (subst (λ q. BlockMarks block (content s.log.episodes q) w'') (sym (heard_group s g t d)) (k.marks s.log.episodes _ few m.marks));
     }
 
 -- at the last word the block marks the links of the log
-pub marking_end : (l w w' : List ℕ) (block p : ℕ) → PassedLog l → Marking l w w' block p → length l ≤ p + 1 → BlockMarks block (content_of l) w'
-marking_end l w w' block p (m, n, t, e, few) s h =
-    let last : p ≡ length l - 1 = omega (arith, s.here.within) in
-    rw (heard_passed m l n t e) at (rw last at s.marks)
+pub marking_end : {w w' : List ℕ} {block : ℕ} (s : Groups) → Marking w w' block s → s.at + 1 ≡ length s.log.words.now
+    → BlockMarks block (content_of s.log.words.now) w'
+marking_end {w' = w'} {block} s m h =
+    let l = s.log.words.now in
+    let last : s.at ≡ length l - 1 = omega arith in
+    let heard = ap (heard_before l) last ∙ heard_passed _ l s.log.episodes s.log.to_words s.log.passes in
+    let n = graph_episodes _ l s.log.episodes s.log.to_words s.log.passes in
+    subst (λ (k : ℕ). BlockMarks block (content k (content_of l).heard) w') (sym n) (subst (λ q. BlockMarks block (content s.log.episodes q) w') heard m.marks)
 
 -- the row holds the mark of each link from `a`
 abbrev Marks : ℕ → List Heard → List ℕ → Type 0

@@ -1,10 +1,9 @@
 -- What the steps to a fair copy leave.
-use Rattle.std.specs.Prelude.{◌≡◌, ◌≢◌, Bool, not, List, [], ◌∷◌, ℕ, zero, suc, ◌+◌, ◌-◌, ◌*◌, ◌/◌, ◌%◌, ◌<◌, min, eqb, length, get_or}
+use Rattle.std.specs.Prelude.{◌≡◌, ◌≢◌, Bool, not, List, [], ◌∷◌, ◌++◌, map, ℕ, zero, suc, ◌+◌, ◌-◌, ◌*◌, ◌/◌, ◌%◌, ◌≤◌, ◌<◌, min, eqb, length, get_or}
 use Rattle.paths.specs.Graph.{Graph}
 use Rattle.paths.specs.Passing.{passing}
-use Rattle.logs.specs.Content.{Content, pauses_of, least}
-use Rattle.logs.specs.Log.{content_of}
-use Rattle.logs.specs.Groups.{heard_before, ToWords}
+use Rattle.logs.specs.Content.{Heard, Content, pauses_of, least}
+use Rattle.logs.specs.Groups.{told}
 use Rattle.copying.specs.FairCopy.{group, groups, group_links}
 use Rattle.writing.specs.Layout.{BeginsWith}
 
@@ -36,15 +35,11 @@ pub record Lowered (at p : ℕ) (w w' : List ℕ) : Type 0 where
   pub here : get_or w' at 0 ≡ lowered (get_or w at 0) p
   pub other : (i : ℕ) → i ≢ at → get_or w' i 0 ≡ get_or w i 0
 
--- what the words of the log before place `p` tell
-abbrev pub content_before : List ℕ → ℕ → Content
-content_before l p = record { n = (content_of l).n; heard = heard_before l p }
-
--- the links of the to words from `start` on and before `p` are marked where they are from the block
-pub record GroupTaken (block : ℕ) (l : List ℕ) (start p : ℕ) (w w' : List ℕ) : Type 0 where
-  pub words : ToWords l start p
+-- the links that the to words `ws` of a group of `a` give are marked where `a` is in the block, and `hs` were heard before
+pub record GroupTaken (block a : ℕ) (ws w w' : List ℕ) : Type 0 where
   pub same_length : length w' ≡ length w
-  pub marks : BlockMarks block (content_before l start) w → BlockMarks block (content_before l p) w'
+  pub marks : (n : ℕ) (hs : List Heard) → n ≤ 256 → BlockMarks block (record { n = n; heard = hs }) w
+      → BlockMarks block (record { n = n; heard = hs ++ map (told a) ws }) w'
 
 -- whether the row has a mark at `b`
 abbrev pub marked_at : List ℕ → ℕ → Bool

@@ -2,18 +2,18 @@
 // episode; then the marked ones are written, row by row.
 #![tactic(auto)]
 
-ghost use Rattle.std.specs.Prelude.{◌≡◌, ◌≢◌, true, false, ℕ, ◌/◌, ◌%◌, ◌^◌, ◌<◌, ◌≤◌, length, get_or, replicate, set};
+ghost use Rattle.std.specs.Prelude.{◌≡◌, ◌≢◌, ℕ, ◌/◌, ◌%◌, ◌^◌, ◌<◌, ◌≤◌, length, get_or, replicate, set};
 ghost use Rattle.logs.specs.Words.{word, Small};
 ghost use Rattle.logs.specs.Content.{least_pause};
-ghost use Rattle.logs.specs.Log.{to_before_last, content_of, graph_of, PassedLog};
-ghost use Rattle.logs.specs.Groups.{nearest_from};
+ghost use Rattle.logs.specs.Log.{content_of, graph_of};
+ghost use Rattle.logs.specs.Groups.{EpisodesBelow};
 ghost use Rattle.writing.specs.Layout.{BeginsWith};
 ghost use Rattle.copying.specs.FairCopy.{linked_to, group, group_links, copy_words, fair_words};
 ghost use Rattle.copying.specs.Calls.{WritesGroups};
 ghost use Rattle.paths.specs.Graph.{Graph};
-ghost use Rattle.copying.specs.Copying.{block_words, row_at, BlockMarks, Lowered, GroupTaken, marked, pause_at, group_length, GroupWritten, GroupsWritten};
+ghost use Rattle.copying.specs.Copying.{block_words, BlockMarks, Lowered, GroupTaken, marked, pause_at, group_length, GroupWritten, GroupsWritten};
 
-use logs::{Kind, ToWord};
+use logs::{Group, Kind, Log, ToWord};
 
 // Lowers the mark at `at` to the pause plus one, where there is none yet or a higher one.
 fn lower(w: &mut [u32], at: usize, pause: u32)
@@ -26,57 +26,34 @@ fn lower(w: &mut [u32], at: usize, pause: u32)
     }
 }
 
-// Marks the to words of a group, the first of which stands at `start`, in the row of their from word, which starts at word `row`, and gives
-// the place behind them.
-fn mark_group(log: &[u32], start: usize, row: usize, w: &mut [u32]) -> usize
-    requires { PassedLog log.now × (0 < start) × (to_before_last log.now start ≡ true) × (row ≡ row_at (nearest_from log.now start))
-        × (length w.old ≡ block_words) }
-    ensures { GroupTaken (nearest_from log.now start / 64) log.now start result w.old w.new
-        × (to_before_last log.now result ≡ false) }
+// Marks the links of a group, in the row of its episode in its block.
+fn mark_group(group: Group, w: &mut [u32])
+    requires { EpisodesBelow 256 group.to_words.now × (length w.old ≡ block_words) }
+    ensures { GroupTaken (group.entry.from / 64) group.entry.from group.entry.to_words.now w.old w.new }
 {
-    let mut at = start;
-    loop {
-        let to = ToWord::from(log[at]);
+    let row = group.from % 64 * 256;
+    for word in group.to_words {
+        let to = ToWord::from(*word);
         lower(w, row + to.episode, to.pause);
-        at += 1;
-        if !logs::to_before_last(log, at) {
-            break;
-        }
-    }
-    at
-}
-
-// Takes the to words of a group of `from`, the first of which stands at `start`: marks them if `from` is in the block, passes over them if
-// not, and gives the place behind them.
-fn take_group(log: &[u32], start: usize, from: usize, block: usize, w: &mut [u32]) -> usize
-    requires { PassedLog log.now × (0 < start) × (to_before_last log.now start ≡ true) × (from ≡ nearest_from log.now start)
-        × (length w.old ≡ block_words) }
-    ensures { GroupTaken block log.now start result w.old w.new × (to_before_last log.now result ≡ false) }
-{
-    if from / 64 == block {
-        mark_group(log, start, from % 64 * 256, w)
-    } else {
-        logs::group_end(log, start + 1)
     }
 }
 
 // Marks the links of a log from the episodes of a block, in words that are zero.
-fn mark_block(log: &[u32], block: usize, w: &mut [u32])
-    requires { PassedLog log.now × (length w.old ≡ block_words) × (w.old ≡ replicate (length w.old) 0) }
-    ensures { BlockMarks block (content_of log.now) w.new }
+fn mark_block(log: Log, block: usize, w: &mut [u32])
+    requires { (log.episodes ≤ 256) × (length w.old ≡ block_words) × (w.old ≡ replicate (length w.old) 0) }
+    ensures { BlockMarks block (content_of log.entry.words.now) w.new }
 {
-    let last = log.len() - 1;
-    let mut at = 1;
-    while at < last {
-        let from = logs::number_of(log[at]);
-        at = take_group(log, at + 1, from, block, w);
+    for group in log.groups() {
+        if group.from / 64 == block {
+            mark_group(group, w);
+        }
     }
 }
 
 // The marks of the block that `a` is in, made where it is the first episode there.
-fn block_of(log: &[u32], a: usize, w: &mut [u32])
-    requires { PassedLog log.now × (length w.old ≡ block_words) × (a % 64 ≢ 0 → BlockMarks (a / 64) (content_of log.now) w.old) }
-    ensures { BlockMarks (a / 64) (content_of log.now) w.new }
+fn block_of(log: Log, a: usize, w: &mut [u32])
+    requires { (log.episodes ≤ 256) × (length w.old ≡ block_words) × (a % 64 ≢ 0 → BlockMarks (a / 64) (content_of log.words.now) w.old) }
+    ensures { BlockMarks (a / 64) (content_of log.entry.words.now) w.new }
 {
     if a % 64 == 0 {
         bits::clear(w);
@@ -110,17 +87,18 @@ fn write_group(row: &[u32], a: usize, out: &mut [u32]) -> usize
 }
 
 // The links of `a`, marked and written.
-fn copy_row(log: &[u32], n: usize, a: usize, out: &mut [u32], w: &mut [u32]) -> usize
-    requires { PassedLog log.now × ((graph_of log.now).n ≡ n) × (n ≤ 256) × (length w.old ≡ block_words)
-        × (a % 64 ≢ 0 → BlockMarks (a / 64) (content_of log.now) w.old)
-        × (a < n) × (length (group a (least_pause (content_of log.now) a) (linked_to a (graph_of log.now).links n)) < length out.old) }
-    ensures { BlockMarks (a / 64) (content_of log.now) w.new
-        × GroupWritten a (least_pause (content_of log.now) a) (linked_to a (graph_of log.now).links n)
+fn copy_row(log: Log, a: usize, out: &mut [u32], w: &mut [u32]) -> usize
+    requires { (log.episodes ≤ 256) × (length w.old ≡ block_words)
+        × (a % 64 ≢ 0 → BlockMarks (a / 64) (content_of log.words.now) w.old)
+        × (a < log.episodes)
+        × (length (group a (least_pause (content_of log.words.now) a) (linked_to a (graph_of log.words.now).links log.episodes)) < length out.old) }
+    ensures { BlockMarks (a / 64) (content_of log.entry.words.now) w.new
+        × GroupWritten a (least_pause (content_of log.entry.words.now) a) (linked_to a (graph_of log.entry.words.now).links log.entry.episodes)
         out.old out.new result }
 {
     block_of(log, a, w);
     let row = a % 64 * 256;
-    write_group(&w[row..row + n], a, out)
+    write_group(&w[row..row + log.episodes], a, out)
 }
 
 // How many words a group of so many links has.
@@ -184,12 +162,11 @@ pub fn write_by_rows<F: FnMut(usize, &mut [u32]) -> usize>(
     groups.words + 1
 }
 
-// Writes the fair copy of a log that passes with `n` episodes, and gives its count of words.
-pub fn write_copy(log: &[u32], n: usize, out: &mut [u32], w: &mut [u32]) -> usize
-    requires { PassedLog log.now × ((graph_of log.now).n ≡ n) × (length w.old ≡ block_words)
-        × (length (fair_words (content_of log.now)) ≤ length out.old) }
-    ensures { (result ≡ length (fair_words (content_of log.now)))
-        × BeginsWith (fair_words (content_of log.now)) out.old out.new }
+// Writes the fair copy of a log, and gives its count of words.
+pub fn write_copy(log: Log, out: &mut [u32], w: &mut [u32]) -> usize
+    requires { (log.episodes ≤ 256) × (length w.old ≡ block_words) × (length (fair_words (content_of log.words.now)) ≤ length out.old) }
+    ensures { (result ≡ length (fair_words (content_of log.entry.words.now)))
+        × BeginsWith (fair_words (content_of log.entry.words.now)) out.old out.new }
 {
-    write_by_rows(n, out, |a, rest| copy_row(log, n, a, rest, w))
+    write_by_rows(log.episodes, out, |a, rest| copy_row(log, a, rest, w))
 }

@@ -38,3 +38,7 @@ pub record Starts (l : List ℕ) (p : ℕ) : Type 0 where
 -- the link that the to word `w` gives in a group of `a`
 abbrev pub told : ℕ → ℕ → Heard
 told a w = record { from = a; to = to_episode w; pause = to_pause w }
+
+-- the later episodes of the to words are below `n`
+abbrev pub EpisodesBelow : ℕ → List ℕ → Type 0
+EpisodesBelow n ws = (j : ℕ) → j < length ws → to_episode (get_or ws j 0) < n

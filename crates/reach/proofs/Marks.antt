@@ -8,7 +8,7 @@ use lib.ListN.{length, get_or, take}
 use lib.Seq.{take-suc}
 use Rattle.logs.specs.Words.{to_episode}
 use Rattle.logs.specs.Content.{joins}
-use Rattle.logs.specs.Groups.{links_before}
+use Rattle.logs.specs.Groups.{links_before, EpisodesBelow}
 use Rattle.logs.specs.Passing.{Given}
 use Rattle.logs.specs.declared.passed.Log.{Log}
 use Rattle.logs.specs.declared.passed.Group.{Group}
@@ -19,7 +19,7 @@ use Rattle.bits.specs.Bits.{BitSet}
 use Rattle.bits.specs.Work.{links_at, ways_at, Outside, next_at}
 use Rattle.bits.proofs.Frames.{outside_none, outside_then, outside_wider, set_outside}
 use Rattle.bits.proofs.Pairs.{no_pairs, one_pair_more}
-use Rattle.reach.specs.Reach.{EpisodesBelow, Marked, links_of, GroupMarked, LinksMarked}
+use Rattle.reach.specs.Reach.{Marked, links_of, GroupMarked, LinksMarked}
 
 -- the first `i` to words of a group are marked
 pub group_first : (a : ℕ) (ws w : List ℕ) → GroupMarked a (take 0 ws) w w

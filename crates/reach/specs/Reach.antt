@@ -12,10 +12,6 @@ use Rattle.bits.specs.Work.{links_at, ways_at, matrix_words, Matrix, Outside, ne
 abbrev pub NoneMarked : List ℕ → Type 0
 NoneMarked w = (i : ℕ) → i < next_at → get_or w i 0 ≡ 0
 
--- the later episodes of the to words are below `n`
-abbrev pub EpisodesBelow : ℕ → List ℕ → Type 0
-EpisodesBelow n ws = (j : ℕ) → j < length ws → to_episode (get_or ws j 0) < n
-
 -- the first matrix holds the links `ls`
 abbrev pub Marked : List (ℕ × ℕ) → List ℕ → Type 0
 Marked ls w = Matrix links_at w (λ a b. Mem (a, b) ls)

@@ -2,9 +2,10 @@
 #![tactic(auto)]
 
 ghost use Rattle.std.specs.Prelude.{◌≡◌, true, false, ◌+◌, ◌*◌, ◌<◌, ◌≤◌, IfSome, length};
+ghost use Rattle.logs.specs.Groups.{EpisodesBelow};
 ghost use Rattle.bits.specs.Work.{links_at, next_at};
 ghost use Rattle.rising.specs.Rising.{NoWays};
-ghost use Rattle.reach.specs.Reach.{EpisodesBelow, NoneMarked, GroupMarked, LinksMarked, LinksCopied, HoldsWays, RowClosed, RoundClosed, Closed, WaysReached};
+ghost use Rattle.reach.specs.Reach.{NoneMarked, GroupMarked, LinksMarked, LinksCopied, HoldsWays, RowClosed, RoundClosed, Closed, WaysReached};
 ghost use Rattle.reach.specs.Reach.{ReachedLog, FirstLoop, episode_or};
 
 use bits::{LINKS, WAYS};

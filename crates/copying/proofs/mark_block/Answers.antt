@@ -1,32 +1,52 @@
-use mathlib.Core.Path.{◌∙◌, sym}
+use mathlib.Core.Path.{subst, ap, ◌∙◌}
 use native.Mathlib.Omega.{arith}
-use Rattle.logs.proofs.Walk.{first_here, to_follows, from_passed}
-use Rattle.copying.proofs.Rows.{marking_start, marking_on, marking_end}
+use Rattle.logs.specs.Log.{content_of}
+use Rattle.logs.specs.declared.passed.Log.{Log}
+use Rattle.logs.specs.declared.passed.Groups.{Groups}
+use Rattle.logs.proofs.Passing.{to_below}
+use Rattle.copying.specs.Copying.{BlockMarks}
+use Rattle.copying.proofs.Rows.{marking_start, marking_on, marking_end, group_passed}
 use Rattle.copying.proofs.mark_block.Goals as goal
 
-pub overflow_sub-last : goal.overflow_sub-last
-overflow_sub-last c = let first = first_here c.args.log.now c.requires.0 in omega (arith, first.within)
-
-pub loop-at-init : goal.loop-at-init
-loop-at-init c = marking_start c.args.log.now c.args.w.now c.args.block c.requires.0 c.requires.1 c.requires.2
-
-pub take_group-at-requires : goal.take_group-at-requires
-take_group-at-requires c =
-    let at = c.loop-at in (
-      c.requires.0,
-      omega arith,
-      to_follows c.args.log.now c.requires.0 at.at at.invariant.here (omega arith),
-      c.number_of-from.ensures ∙ sym (from_passed c.args.log.now c.requires.0 at.at at.invariant.here (omega arith)).1,
-      at.invariant.same_length ∙ c.requires.1,
+pub loop-group-init : goal.loop-group-init
+loop-group-init c =
+    let same = c.into_iter-group-iterator.ensures.into_iter_gives in
+    let first = c.groups-group-items.ensures in
+    let log = ap (λ (s : Groups). s.log) same ∙ first.0 in (
+      tt,
+      tt,
+      log,
+      marking_start c.into_iter-group-iterator.result c.args.w.now c.args.block (ap (λ (s : Groups). s.at) same ∙ first.1)
+          (omega (arith, ap (λ (l : Log). l.episodes) log, c.requires.0)) c.requires.1 c.requires.2,
     )
 
-pub loop-at-preserved : goal.loop-at-preserved
-loop-at-preserved c =
-    let at = c.loop-at in
-    let group = c.take_group-at.ensures in
-    marking_on c.requires.0 at.invariant (omega arith) group.0 group.1
+pub mark_group-requires : goal.mark_group-requires
+mark_group-requires c =
+    let s = c.loop-group.group-iterator in
+    let few : _ = ap (λ (l : Log). l.episodes) c.loop-group.invariant.2 in (
+      λ j h. omega (arith, to_below s c.in-Some.group _ c.in-Some.ensures.steps j h, few, c.requires.0),
+      c.loop-group.invariant.3.same_length ∙ c.requires.1,
+    )
+
+pub loop-group-preserved-then-group-block : goal.loop-group-preserved-then-group-block
+loop-group-preserved-then-group-block c =
+    let d = c.in-Some.ensures.steps in
+    let few : _ = ap (λ (l : Log). l.episodes) c.loop-group.invariant.2 in
+    (tt, tt, d.same ∙ c.loop-group.invariant.2, marking_on c.loop-group.invariant.3 (omega (arith, few, c.requires.0)) d (rw c.if-group-block.true at c.mark_group.ensures))
+
+pub loop-group-preserved : goal.loop-group-preserved
+loop-group-preserved c =
+    let d = c.in-Some.ensures.steps in
+    let g = c.in-Some.group in
+    let few : _ = ap (λ (l : Log). l.episodes) c.loop-group.invariant.2 in (
+      tt,
+      tt,
+      d.same ∙ c.loop-group.invariant.2,
+      marking_on c.loop-group.invariant.3 (omega (arith, few, c.requires.0)) d
+          (group_passed c.args.block g.from g.to_words.now c.loop-group.w c.if-group-block.false),
+    )
 
 pub returns : goal.returns
 returns c =
-    let at = c.loop-at in
-    marking_end c.args.log.now c.args.w.now at.w c.args.block at.at c.requires.0 at.invariant (omega arith)
+    let at = c.loop-group in
+    subst (λ (l : Log). BlockMarks c.args.block (content_of l.words.now) at.w) at.invariant.2 (marking_end at.group-iterator at.invariant.3 c.in-None.ensures.steps.0)

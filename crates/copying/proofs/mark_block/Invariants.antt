@@ -1,13 +1,10 @@
--- `copying::mark_block` meets its contract. The invariant: a group starts at `at` or the last word stands there, and the block marks the links
--- of the words before it.
+-- `copying::mark_block` meets its contract. The invariant: the block marks the links of the words before the next group.
 -- Assumes nothing.
-use Prim.Native.Nat.{◌-◌}
-use lib.ListN.{length}
+use mathlib.Core.Path.{◌≡◌}
 use Rattle.copying.proofs.Rows.{Marking}
 use Rattle.copying.proofs.mark_block.Given as goal
 
-abbrev pub invariant-loop-at : goal.invariant-loop-at
-invariant-loop-at l = Marking l.log l.initial.w l.w l.block l.at
-
-abbrev pub decreases-loop-at : goal.decreases-loop-at
-decreases-loop-at l = length l.log - l.at
+abbrev pub invariant-loop-group : goal.invariant-loop-group
+invariant-loop-group l =
+    (goal.iterator-loop-group).can_next l.group-iterator × (goal.iterator-loop-group).is_finite l.group-iterator × (l.group-iterator.log ≡ l.log)
+    × Marking l.initial.w l.w l.block l.group-iterator
