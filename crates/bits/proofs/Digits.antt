@@ -10,6 +10,7 @@ use lib.Pow.{pow_pos, pow-add, pow-lt, shr-shr, shl-shr}
 use lib.Bits.{bit_or, bit_xor, differ, or_shr, or_step, xor_shr, xor_step, xor_lt}
 use lib.Count.{count_trailing_zeros, trailing_of_zero, under}
 use Rattle.bits.specs.Bits.{digit}
+use Rattle.bits.specs.Ones.{LowestTaken}
 
 pub digit_lt : (x i : ℕ) → digit x i < 2
 digit_lt x i = mod-lt (x / 2 ^ i) (zero-lt-suc 1)
@@ -104,73 +105,90 @@ mask t h =
     let e : 1 * 2 ^ t ≡ 2 ^ t = omega arith in
     ap (λ (x : ℕ). x % 4294967296) e ∙ mod-eq_of_lt l
 
--- `x` has the digits of `x₀` from `k` on, and no others
-pub record Rest (x₀ x k : ℕ) : Type 0 where
-  pub small : x < 2 ^ 32
-  pub at_most : k ≤ 32
-  pub below : (j : ℕ) → j < k → digit x j ≡ 0
-  pub above : (j : ℕ) → k ≤ j → digit x j ≡ digit x₀ j
-
-pub rest_start : (x : ℕ) → x < 2 ^ 32 → Rest x x 0
-rest_start x h = record { small = h; at_most = omega arith; below = λ j l. absurd (omega arith); above = λ j l. refl }
-
--- the lowest is taken out
-module _ {x₀ x k : ℕ} (r : Rest x₀ x k) (some : 0 < x) where
+-- the lowest digit that is one is taken out of a word
+module _ (x : ℕ) (h : x < 2 ^ 32) (some : 0 < x) where
   abbrev lowest : ℕ
   lowest = count_trailing_zeros 32 x
 
   abbrev less : ℕ
   less = bit_xor x (1 * 2 ^ count_trailing_zeros 32 x % 4294967296)
 
-  pub rest_below : count_trailing_zeros 32 x < 32
-  rest_below = (digit_trailing 32 x r.small some).0
-
-  -- those before it were none
-  pub rest_least : k ≤ count_trailing_zeros 32 x
-  rest_least = go (dec_lt (count_trailing_zeros 32 x) k)
-    where
-      go : Dec (count_trailing_zeros 32 x < k) → k ≤ count_trailing_zeros 32 x
-      go (yes l) = absurd (omega (arith, r.below (count_trailing_zeros 32 x) l, (digit_trailing 32 x r.small some).1))
-      go (no l) = omega arith
-
-  pub rest_here : digit x₀ (count_trailing_zeros 32 x) ≡ 1
-  rest_here = sym (r.above lowest rest_least) ∙ (digit_trailing 32 x r.small some).1
-
-  pub rest_none : (j : ℕ) → k ≤ j → j < count_trailing_zeros 32 x → digit x₀ j ≡ 0
-  rest_none j lo hi = sym (r.above j lo) ∙ digit_below 32 x j hi
-
   digit_less : (j : ℕ) → digit less j ≡ differ (digit x j) (digit (2 ^ lowest) j)
-  digit_less j = rw (mask lowest rest_below) (digit_xor x (2 ^ lowest) j)
+  digit_less j = rw (mask lowest (digit_trailing 32 x h some).0) (digit_xor x (2 ^ lowest) j)
 
-  pub rest_on : Rest x₀ less (count_trailing_zeros 32 x + 1)
-  rest_on =
+  pub lowest_taken : LowestTaken x (count_trailing_zeros 32 x) (bit_xor x (1 * 2 ^ count_trailing_zeros 32 x % 4294967296))
+  lowest_taken =
       record {
-        small = rw (mask lowest rest_below) (xor_lt 32 x (2 ^ lowest) r.small (pow-lt rest_below));
-        at_most = omega (arith, rest_below);
-        below = λ j l. digit_less j ∙ below j l (ℕ_discrete j lowest);
-        above = λ j l.
-            digit_less j ∙ rw (digit_other lowest j (λ e. absurd (omega arith))) (differ_none (digit x j))
-            ∙ r.above j (omega (arith, rest_least));
+        below = (digit_trailing 32 x h some).0;
+        here = (digit_trailing 32 x h some).1;
+        lower = λ j l. digit_below 32 x j l;
+        taken = digit_less lowest ∙ rw ((digit_trailing 32 x h some).1, digit_one lowest) refl;
+        others = λ j ne. digit_less j ∙ rw (digit_other lowest j ne) (differ_none (digit x j));
       }
-    where
-      below : (j : ℕ) → j < lowest + 1 → Dec (j ≡ lowest) → differ (digit x j) (digit (2 ^ lowest) j) ≡ 0
-      below j l (yes e) = rw (e, (digit_trailing 32 x r.small some).1, digit_one lowest) refl
-      below j l (no ne) = rw (digit_below 32 x j (omega (arith, ne)), digit_other lowest j ne) refl
 
-  pub rest_less : 32 - count_trailing_zeros 32 less < 32 - count_trailing_zeros 32 x
-  rest_less = go (ℕ_discrete less 0)
+  less_lt : less < 2 ^ 32
+  less_lt = rw (mask lowest (digit_trailing 32 x h some).0) (xor_lt 32 x (2 ^ lowest) h (pow-lt (digit_trailing 32 x h some).0))
+
+  -- what is left has its lowest further up
+  pub lowest_less : 32 - count_trailing_zeros 32 (bit_xor x (1 * 2 ^ count_trailing_zeros 32 x % 4294967296)) < 32 - count_trailing_zeros 32 x
+  lowest_less = go (ℕ_discrete less 0)
     where
+      below : count_trailing_zeros 32 x < 32
+      below = (digit_trailing 32 x h some).0
+
       go : Dec (less ≡ 0) → 32 - count_trailing_zeros 32 less < 32 - count_trailing_zeros 32 x
-      go (yes e) = rw e (omega (arith, rest_below, trailing_of_zero 32))
+      go (yes e) = rw e (omega (arith, below, trailing_of_zero 32))
       go (no ne) =
-          let (low, one) = digit_trailing 32 less rest_on.small (omega (arith, ne)) in
-          higher low one (dec_lt (count_trailing_zeros 32 less) (count_trailing_zeros 32 x + 1))
+          let (low, one) = digit_trailing 32 less less_lt (omega (arith, ne)) in
+          higher low one (ℕ_discrete (count_trailing_zeros 32 less) lowest) (dec_lt (count_trailing_zeros 32 less) lowest)
         where
           higher : count_trailing_zeros 32 less < 32 → digit less (count_trailing_zeros 32 less) ≡ 1
-              → Dec (count_trailing_zeros 32 less < count_trailing_zeros 32 x + 1) → 32 - count_trailing_zeros 32 less < 32 - count_trailing_zeros 32 x
-          higher low one (yes l) = absurd (omega (arith, rest_on.below (count_trailing_zeros 32 less) l))
-          higher low one (no l) = omega (arith, rest_below)
+              → Dec (count_trailing_zeros 32 less ≡ lowest) → Dec (count_trailing_zeros 32 less < lowest)
+              → 32 - count_trailing_zeros 32 less < 32 - count_trailing_zeros 32 x
+          higher low one (yes e) l = let t = lowest_taken.taken in absurd (omega (arith, t, rw e at one))
+          higher low one (no ne) (yes l) =
+              let o = lowest_taken.others (count_trailing_zeros 32 less) ne in
+              let z = digit_below 32 x (count_trailing_zeros 32 less) l in
+              absurd (omega arith)
+          higher low one (no ne) (no l) = omega (arith, ne)
+
+-- `rest` has the digits of `x` from `k` on, and no others
+pub record Rest (x rest k : ℕ) : Type 0 where
+  pub at_most : k ≤ 32
+  pub below : (j : ℕ) → j < k → digit rest j ≡ 0
+  pub above : (j : ℕ) → k ≤ j → digit rest j ≡ digit x j
+
+pub rest_start : (x : ℕ) → Rest x x 0
+rest_start x = record { at_most = omega arith; below = λ j l. absurd (omega arith); above = λ j l. refl }
+
+-- the lowest is taken out
+module _ {x rest k b less : ℕ} (r : Rest x rest k) (t : LowestTaken rest b less) where
+  -- those before it were none
+  pub rest_least : k ≤ b
+  rest_least = go (dec_lt b k)
+    where
+      go : Dec (b < k) → k ≤ b
+      go (yes l) = absurd (omega (arith, r.below b l, t.here))
+      go (no l) = omega arith
+
+  pub rest_here : digit x b ≡ 1
+  rest_here = sym (r.above b rest_least) ∙ t.here
+
+  pub rest_none : (j : ℕ) → k ≤ j → j < b → digit x j ≡ 0
+  rest_none j lo hi = sym (r.above j lo) ∙ t.lower j hi
+
+  pub rest_on : Rest x less (b + 1)
+  rest_on =
+      record {
+        at_most = omega (arith, t.below);
+        below = λ j l. below j l (ℕ_discrete j b);
+        above = λ j l. t.others j (λ e. absurd (omega arith)) ∙ r.above j (omega (arith, rest_least));
+      }
+    where
+      below : (j : ℕ) → j < b + 1 → Dec (j ≡ b) → digit less j ≡ 0
+      below j l (yes e) = rw e t.taken
+      below j l (no ne) = t.others j ne ∙ t.lower j (omega (arith, ne))
 
 -- none is left
-pub rest_end : {x₀ x k : ℕ} → Rest x₀ x k → x ≡ 0 → (j : ℕ) → k ≤ j → digit x₀ j ≡ 0
+pub rest_end : {x rest k : ℕ} → Rest x rest k → rest ≡ 0 → (j : ℕ) → k ≤ j → digit x j ≡ 0
 rest_end r e j l = sym (r.above j l) ∙ ap (λ (y : ℕ). digit y j) e ∙ digit_none j

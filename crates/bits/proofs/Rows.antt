@@ -12,9 +12,11 @@ use native.Mathlib.Omega.{arith}
 use lib.ListN.{length, get_or, set, length-set}
 use lib.Seq.{get_or-set_same, get_or-set_other}
 use lib.Pow.{pow_mono}
-use lib.Bits.{bit_or, bit_xor, differ, or_lt, xor_lt}
+use lib.Bits.{bit_or, differ}
 use lib.Count.{count_trailing_zeros}
-use Rattle.bits.specs.Bits.{digit, bit, BitSet, RowAdded, FirstBit, NextNew}
+use Rattle.bits.specs.Bits.{digit, bit, fresh, BitSet, RowAdded, FirstFrom, NextNew}
+use Rattle.bits.specs.Ones.{BitGiven}
+use Rattle.bits.specs.declared.ones.Row.{Row}
 use Rattle.bits.proofs.Digits.{mask, digit_lt, digit_or, digit_xor, digit_shr, digit_one, digit_other, digit_trailing, digit_below, digit_none}
 
 pub bit_lt : (w : List ℕ) (row b : ℕ) → bit w row b < 2
@@ -130,11 +132,7 @@ module _ {w v v' : List ℕ} {to from i : ℕ} (s : Joining w v v' to from i) wh
 pub row_added : {w v v' : List ℕ} {row i : ℕ} → Joining w v v' 0 row i → i ≡ 8 → RowAdded w row v v'
 row_added s e = record { same_length = s.same_length; joined = joined_bit s e }
 
--- ---- the first bit
-
--- no bit of the words before word `i` of the row at `row` is set
-abbrev pub NoneBefore : List ℕ → ℕ → ℕ → Type 0
-NoneBefore w row i = (c : ℕ) → c < 32 * i → bit w row c ≡ 0
+-- ---- the first bit from a place on
 
 -- the bits of word `i` of a row are its digits
 pub bit_digit : (w : List ℕ) (row i j : ℕ) → j < 32 → bit w row (32 * i + j) ≡ digit (get_or w (row + i) 0) j
@@ -144,35 +142,92 @@ bit_digit w row i j h =
     let f : (32 * i + j) % 32 ≡ j = omega arith in
     rw (e, f)
 
-module _ (w : List ℕ) (row i : ℕ) (none : NoneBefore w row i) where
-  pub first_here : i < 8 → get_or w (row + i) 0 < 2 ^ 32 → 0 < get_or w (row + i) 0 → FirstBit w row (32 * i + count_trailing_zeros 32 (get_or w (row + i) 0))
-  first_here l h p =
-      let (below, one) = digit_trailing 32 (get_or w (row + i) 0) h p in
+-- a digit that is one stands below a number's bound
+one_below : (x k i : ℕ) → x < 2 ^ k → digit x i ≡ 1 → i < k
+one_below x k i h e = go (dec_lt i k)
+  where
+    go : Dec (i < k) → i < k
+    go (yes l) = l
+    go (no l) =
+        let z : digit x i ≡ 0 = ap (λ (y : ℕ). y % 2) (div-eq_of_lt (lt_of_lt_of_le h (pow_mono (omega arith)))) in
+        absurd (omega arith)
+
+-- the word `x` from its digit `s` on
+module _ (x s : ℕ) (h : x < 2 ^ 32) where
+  shifted_lt : x / 2 ^ s < 2 ^ 32
+  shifted_lt = lt_of_le_of_lt (div-le_self x (2 ^ s)) h
+
+  -- its first digit that is one
+  module _ (p : 0 < x / 2 ^ s) where
+    first_one : digit x (s + count_trailing_zeros 32 (x / 2 ^ s)) ≡ 1
+    first_one = sym (digit_shr x s _) ∙ (digit_trailing 32 (x / 2 ^ s) shifted_lt p).1
+
+    first_within : s + count_trailing_zeros 32 (x / 2 ^ s) < 32
+    first_within = one_below x 32 _ h first_one
+
+    zeros_before : (j : ℕ) → s ≤ j → j < s + count_trailing_zeros 32 (x / 2 ^ s) → digit x j ≡ 0
+    zeros_before j lo hi =
+        let e : s + (j - s) ≡ j = omega arith in
+        rw e at (sym (digit_shr x s (j - s)) ∙ digit_below 32 (x / 2 ^ s) (j - s) (omega arith))
+
+  zeros_behind : x / 2 ^ s ≡ 0 → (j : ℕ) → s ≤ j → digit x j ≡ 0
+  zeros_behind z j lo =
+      let e : s + (j - s) ≡ j = omega arith in
+      rw e at (sym (digit_shr x s (j - s)) ∙ ap (λ (y : ℕ). digit y (j - s)) z ∙ digit_none (j - s))
+
+pub first_below : (at x : ℕ) → at < 256 → x < 2 ^ 32 → 0 < x / 2 ^ (at % 32) → at + count_trailing_zeros 32 (x / 2 ^ (at % 32)) < 256
+first_below at x l h p = omega (arith, first_within x (at % 32) h p)
+
+-- no bit from `from` on and before `at`, in the row whose words are `f 0` to `f 7`
+pub record NoneFrom (f : ℕ → ℕ) (from at : ℕ) : Type 0 where
+  pub at_least : from ≤ at
+  pub at_most : at ≤ 256
+  pub passed : (c : ℕ) → from ≤ c → c < at → digit (f (c / 32)) (c % 32) ≡ 0
+
+pub none_yet : (f : ℕ → ℕ) (from : ℕ) → from ≤ 256 → NoneFrom f from from
+none_yet f from h = record { at_least = omega arith; at_most = h; passed = λ c lo hi. absurd (omega arith) }
+
+-- `x` is the word of the bit `at`
+module _ (f : ℕ → ℕ) (from at x : ℕ) (none : NoneFrom f from at) (l : at < 256) (h : x < 2 ^ 32) (e : x ≡ f (at / 32)) where
+  -- a bit of that word
+  in_word : (c : ℕ) → c / 32 ≡ at / 32 → digit (f (c / 32)) (c % 32) ≡ digit x (c % 32)
+  in_word c q = rw q (ap (λ (y : ℕ). digit y (c % 32)) (sym e))
+
+  pub none_then_first : 0 < x / 2 ^ (at % 32) → FirstFrom f from (at + count_trailing_zeros 32 (x / 2 ^ (at % 32)))
+  none_then_first p =
+      let t : ℕ = count_trailing_zeros 32 (x / 2 ^ (at % 32)) in
+      let within = first_within x (at % 32) h p in
+      let q : (at + t) % 32 ≡ at % 32 + t = omega arith in
       record {
+        at_least = omega (arith, none.at_least);
         at_most = omega arith;
-        here = λ q. bit_digit w row i (count_trailing_zeros 32 (get_or w (row + i) 0)) below ∙ one;
-        none = λ c hi. go below c hi (dec_lt c (32 * i));
+        here = λ _. in_word (at + t) (omega arith) ∙ rw q (first_one x (at % 32) h p);
+        passed = λ c lo hi. go c lo hi (dec_lt c at);
       }
     where
-      go : count_trailing_zeros 32 (get_or w (row + i) 0) < 32 → (c : ℕ) → c < 32 * i + count_trailing_zeros 32 (get_or w (row + i) 0) → Dec (c < 32 * i)
-          → bit w row c ≡ 0
-      go below c hi (yes q) = none c q
-      go below c hi (no q) =
-          let e : 32 * i + (c - 32 * i) ≡ c = omega arith in
-          rw e at (bit_digit w row i (c - 32 * i) (omega arith) ∙ digit_below 32 (get_or w (row + i) 0) (c - 32 * i) (omega arith))
+      go : (c : ℕ) → from ≤ c → c < at + count_trailing_zeros 32 (x / 2 ^ (at % 32)) → Dec (c < at) → digit (f (c / 32)) (c % 32) ≡ 0
+      go c lo hi (yes b) = none.passed c lo b
+      go c lo hi (no b) =
+          let within = first_within x (at % 32) h p in
+          in_word c (omega arith) ∙ zeros_before x (at % 32) h p (c % 32) (omega arith) (omega arith)
 
-  pub none_here : get_or w (row + i) 0 ≡ 0 → NoneBefore w row (i + 1)
-  none_here z c hi = go (dec_lt c (32 * i))
+  pub none_then_none : x / 2 ^ (at % 32) ≡ 0 → NoneFrom f from ((at / 32 + 1) * 32)
+  none_then_none z = record { at_least = omega (arith, none.at_least); at_most = omega arith; passed = λ c lo hi. go c lo hi (dec_lt c at) }
     where
-      go : Dec (c < 32 * i) → bit w row c ≡ 0
-      go (yes q) = none c q
-      go (no q) = let e : c / 32 ≡ i = omega arith in bits_zero w row c (rw e z)
+      go : (c : ℕ) → from ≤ c → c < (at / 32 + 1) * 32 → Dec (c < at) → digit (f (c / 32)) (c % 32) ≡ 0
+      go c lo hi (yes b) = none.passed c lo b
+      go c lo hi (no b) = in_word c (omega arith) ∙ zeros_behind x (at % 32) h z (c % 32) (omega arith)
 
--- ---- the first new bit
+pub none_at_all : {f : ℕ → ℕ} {from at : ℕ} → NoneFrom f from at → 256 ≤ at → FirstFrom f from 256
+none_at_all none h =
+    record {
+      at_least = omega (arith, none.at_least, none.at_most);
+      at_most = omega arith;
+      here = λ l. absurd (omega arith);
+      passed = λ c lo hi. none.passed c lo (omega arith);
+    }
 
--- the digits that `r` has and `o` has not
-abbrev pub fresh : ℕ → ℕ → ℕ
-fresh r o = bit_xor (bit_or r o) o
+-- ---- the first bit that is new
 
 pub fresh_one : (x y : ℕ) → x < 2 → y < 2 → differ (max x y) y ≡ 1 → (x ≡ 1) × (y ≡ 0)
 fresh_one zero zero h k e = absurd (omega arith)
@@ -199,104 +254,25 @@ pub bit_fresh : (u v w : List ℕ) (row seen to c : ℕ) → get_or w (to + c / 
 unfolding bit
 bit_fresh u v w row seen to c e = ap (λ (x : ℕ). digit x (c % 32)) e ∙ digit_fresh _ _ (c % 32)
 
--- a digit that is one stands below a number's bound
-one_below : (x k i : ℕ) → x < 2 ^ k → digit x i ≡ 1 → i < k
-one_below x k i h e = go (dec_lt i k)
-  where
-    go : Dec (i < k) → i < k
-    go (yes l) = l
-    go (no l) =
-        let z : digit x i ≡ 0 = ap (λ (y : ℕ). y % 2) (div-eq_of_lt (lt_of_lt_of_le h (pow_mono (omega arith)))) in
-        absurd (omega arith)
+pub first_new : {w : List ℕ} {row seen from r : ℕ} → FirstFrom (λ i. fresh (get_or w (row + i) 0) (get_or w (seen + i) 0)) from r
+    → NextNew w row seen from r
+unfolding bit
+first_new {w} {row} {seen} {from} {r} f =
+    record {
+      at_least = f.at_least;
+      at_most = f.at_most;
+      new = λ h. fresh_one _ _ (digit_lt _ (r % 32)) (digit_lt _ (r % 32)) (sym (digit_fresh _ _ (r % 32)) ∙ f.here h);
+      passed = λ c lo hi. fresh_zero _ _ (digit_lt _ (c % 32)) (digit_lt _ (c % 32)) (sym (digit_fresh _ _ (c % 32)) ∙ f.passed c lo hi);
+    }
 
--- the rows at `row` and `seen` of `w` from the bit `at` on; `x` is what is new in its word, from that bit on
-module _ (w : List ℕ) (row seen at : ℕ) where
-  abbrev pub new_in : ℕ
-  new_in = fresh (get_or w (row + at / 32) 0) (get_or w (seen + at / 32) 0) / 2 ^ (at % 32)
+-- ---- the bits of a row, one by one
 
-  -- its digits are those of the rows
-  digit_new : (i : ℕ) → at % 32 + i < 32
-      → digit new_in i ≡ differ (max (bit w row (at + i)) (bit w seen (at + i))) (bit w seen (at + i))
-  unfolding bit
-  digit_new i h =
-      let e : (at + i) / 32 ≡ at / 32 = omega arith in
-      let f : (at + i) % 32 ≡ at % 32 + i = omega arith in
-      rw (e, f) (digit_shr _ (at % 32) i ∙ digit_fresh _ _ (at % 32 + i))
+pub bit_given : (s t : Row) (b : ℕ) → FirstFrom (λ i. get_or s.words.now (s.row + i) 0) s.from b → b < 256 → t.words.now ≡ s.words.now → t.row ≡ s.row
+    → t.from ≡ b + 1 → BitGiven s b t
+unfolding bit
+bit_given s t b f h w r e =
+    record { words = w; row = r; from = e; at_least = f.at_least; below = h; here = f.here h; passed = f.passed }
 
-  new_found : (t : ℕ) → at % 32 + t < 32 → digit new_in t ≡ 1 → (bit w row (at + t) ≡ 1) × (bit w seen (at + t) ≡ 0)
-  new_found t h e = fresh_one _ _ (bit_lt w row (at + t)) (bit_lt w seen (at + t)) (sym (digit_new t h) ∙ e)
-
-  new_none : (t : ℕ) → at % 32 + t < 32 → digit new_in t ≡ 0 → bit w row (at + t) ≡ 1 → bit w seen (at + t) ≡ 1
-  new_none t h e = fresh_zero _ _ (bit_lt w row (at + t)) (bit_lt w seen (at + t)) (sym (digit_new t h) ∙ e)
-
-  new_lt : get_or w (row + at / 32) 0 < 2 ^ 32 → get_or w (seen + at / 32) 0 < 2 ^ 32 → new_in < 2 ^ 32
-  new_lt h k =
-      lt_of_le_of_lt (div-le_self _ (2 ^ (at % 32))) (xor_lt 32 _ _ (or_lt 32 _ _ h k) k)
-
-  -- from the bit `at` on, in its word: the first new bit
-  module _ (h : get_or w (row + at / 32) 0 < 2 ^ 32) (k : get_or w (seen + at / 32) 0 < 2 ^ 32) (p : 0 < new_in) where
-    new_within : at % 32 + count_trailing_zeros 32 new_in < 32
-    new_within =
-        let t : ℕ = count_trailing_zeros 32 new_in in
-        let (below, one) = digit_trailing 32 new_in (new_lt h k) p in
-        one_below (fresh (get_or w (row + at / 32) 0) (get_or w (seen + at / 32) 0)) 32 (at % 32 + t) (xor_lt 32 _ _ (or_lt 32 _ _ h k) k)
-        (sym (digit_shr _ (at % 32) t) ∙ one)
-
-    pub new_below : at < 256 → at + count_trailing_zeros 32 new_in < 256
-    new_below l = omega (arith, new_within)
-
-    pub first_new : at < 256 → NextNew w row seen at (at + count_trailing_zeros 32 new_in)
-    first_new l =
-        let t : ℕ = count_trailing_zeros 32 new_in in
-        let (below, one) = digit_trailing 32 new_in (new_lt h k) p in
-        record {
-          at_least = omega arith;
-          at_most = omega (arith, new_below l);
-          new = λ q. new_found t new_within one;
-          passed = λ c lo hi.
-              let e : at + (c - at) ≡ c = omega arith in
-              rw e at (new_none (c - at) (omega (arith, new_within)) (digit_below 32 new_in (c - at) (omega arith)));
-        }
-
-  -- or none
-  word_passed : new_in ≡ 0 → (c : ℕ) → at ≤ c → c < (at / 32 + 1) * 32 → bit w row c ≡ 1 → bit w seen c ≡ 1
-  word_passed z c lo hi =
-      let e : at + (c - at) ≡ c = omega arith in
-      rw e at (new_none (c - at) (omega arith) (ap (λ (y : ℕ). digit y (c - at)) z ∙ digit_none (c - at)))
-
--- no new bit from `from` on up to `at`
-pub record NoneNew (w : List ℕ) (row seen from at : ℕ) : Type 0 where
-  pub at_least : from ≤ at
-  pub at_most : at ≤ 256
-  pub passed : (c : ℕ) → from ≤ c → c < at → bit w row c ≡ 1 → bit w seen c ≡ 1
-
-module _ (w : List ℕ) (row seen from at : ℕ) (none : NoneNew w row seen from at) where
-  pub none_then_first : (r : ℕ) → NextNew w row seen at r → NextNew w row seen from r
-  none_then_first r f =
-      record {
-        at_least = omega (arith, f.at_least);
-        at_most = f.at_most;
-        new = f.new;
-        passed = λ c lo hi. go c lo hi (dec_lt c at);
-      }
-    where
-      go : (c : ℕ) → from ≤ c → c < r → Dec (c < at) → bit w row c ≡ 1 → bit w seen c ≡ 1
-      go c lo hi (yes l) = none.passed c lo l
-      go c lo hi (no l) = f.passed c (omega arith) hi
-
-  pub none_then_none : at < 256 → new_in w row seen at ≡ 0 → NoneNew w row seen from ((at / 32 + 1) * 32)
-  none_then_none l z =
-      record { at_least = omega arith; at_most = omega arith; passed = λ c lo hi. go c lo hi (dec_lt c at) }
-    where
-      go : (c : ℕ) → from ≤ c → c < (at / 32 + 1) * 32 → Dec (c < at) → bit w row c ≡ 1 → bit w seen c ≡ 1
-      go c lo hi (yes h) = none.passed c lo h
-      go c lo hi (no h) = word_passed w row seen at z c (omega arith) hi
-
-  pub none_at_all : 256 ≤ at → NextNew w row seen from 256
-  none_at_all h =
-      record {
-        at_least = omega arith;
-        at_most = omega arith;
-        new = λ l. absurd (omega arith);
-        passed = λ c lo hi. none.passed c lo (omega arith);
-      }
+pub no_bit_left : (w : List ℕ) (row from : ℕ) → FirstFrom (λ i. get_or w (row + i) 0) from 256 → (c : ℕ) → from ≤ c → c < 256 → bit w row c ≡ 0
+unfolding bit
+no_bit_left w row from f c = f.passed c

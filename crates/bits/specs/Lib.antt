@@ -1,3 +1,4 @@
 -- Rows of bits and tables in lent words.
 pub mod Bits
+pub mod Ones
 pub mod Work

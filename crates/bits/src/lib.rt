@@ -2,7 +2,11 @@
 #![tactic(auto)]
 
 ghost use Rattle.std.specs.Prelude.{◌≡◌, ℕ, ◌+◌, ◌*◌, ◌/◌, ◌<◌, ◌≤◌, IfSome, eqb, length, get_or, replicate};
-ghost use Rattle.bits.specs.Bits.{digit, bit, BitSet, RowJoined, RowAdded, RowGained, RowTaken, RowCopied, FirstBit, NextNew, place_or_end};
+ghost use Rattle.bits.specs.Bits.{digit, bit, fresh, BitSet, RowJoined, RowAdded, RowGained, RowTaken, RowCopied, FirstFrom, FirstBit, NextNew, place_or_end};
+
+pub mod ones;
+
+pub use ones::{Ones, Row, bits_of, ones_of};
 
 // The regions of the work words: the links and the ways, each a row of bits for each episode; the tables of the search, 256 words each;
 // the bits of what it has seen, of what earlier searches have seen in vain, and bits of which none is set.
@@ -51,7 +55,7 @@ pub fn set_bit(w: &mut [u32], row: usize, b: usize)
 }
 
 // Joins the row `from` into the row `to`.
-pub fn join(to: &mut [u32], from: &[u32])
+fn join(to: &mut [u32], from: &[u32])
     requires { (length to.old ≡ 8) × (length from.now ≡ 8) }
     ensures { RowAdded from.now 0 to.old to.new }
 {
@@ -61,16 +65,16 @@ pub fn join(to: &mut [u32], from: &[u32])
 }
 
 // Joins the row that starts at word `row` of `w` into the row `v`.
-pub fn join_into(w: &[u32], row: usize, v: &mut [u32])
-    requires { (row + 8 ≤ length w.now) × (length v.old ≡ 8) }
+pub fn join_into(w: &[u32], row: usize, v: &mut [u32; 8])
+    requires { row + 8 ≤ length w.now }
     ensures { RowAdded w.now row v.old v.new }
 {
     join(v, &w[row..row + 8]);
 }
 
 // Joins the row `v` into the row that starts at word `row` of `w`.
-pub fn join_from(v: &[u32], w: &mut [u32], row: usize)
-    requires { (length v.now ≡ 8) × (row + 8 ≤ length w.old) }
+pub fn join_from(v: &[u32; 8], w: &mut [u32], row: usize)
+    requires { row + 8 ≤ length w.old }
     ensures { RowGained v.now w.old w.new row }
 {
     join(&mut w[row..row + 8], v);
@@ -103,19 +107,39 @@ pub fn copy_row(w: &mut [u32], to: usize, from: usize)
     w[to..to + 8].copy_from_slice(&row);
 }
 
+// The bits that `word` has and `other` has not.
+pub fn without(word: u32, other: u32) -> u32
+    ensures { result ≡ fresh word other }
+{
+    (word | other) ^ other
+}
+
+// The first bit from `from` on of the row of eight words that `word_of` gives.
+fn first_from<F: Fn(usize) -> u32>(word_of: F, from: usize) -> Option<usize>
+    requires called { (i : ℕ) → i < 8 → F.pre word_of i }
+    requires within { from ≤ 256 }
+    ensures first { (f : ℕ → ℕ) → ((i x : ℕ) → i < 8 → F.post word_of i x → x ≡ f i) → FirstFrom f from (place_or_end result) }
+    ensures below { IfSome result (λ b. b < 256) }
+{
+    let mut at = from;
+    while at < 256 {
+        let i = at / 32;
+        let ones = word_of(i) >> (at % 32);
+        if ones != 0 {
+            return Some(at + ones.trailing_zeros() as usize);
+        }
+        at = (i + 1) * 32;
+    }
+    None
+}
+
 // The first bit of the row that starts at word `row`.
 pub fn first_bit(w: &[u32], row: usize) -> Option<usize>
     requires { row + 8 ≤ length w.now }
     ensures first { FirstBit w.now row (place_or_end result) }
     ensures below { IfSome result (λ b. b < 256) }
 {
-    for word in 0..8 {
-        let x = w[row + word];
-        if x != 0 {
-            return Some(32 * word + x.trailing_zeros() as usize);
-        }
-    }
-    None
+    bits_of(w, row).next()
 }
 
 // The first bit from `from` on that the row at `row` has and the row at `seen` has not.
@@ -124,17 +148,7 @@ pub fn next_new(w: &[u32], row: usize, seen: usize, from: usize) -> Option<usize
     ensures first { NextNew w.now row seen from (place_or_end result) }
     ensures below { IfSome result (λ b. b < 256) }
 {
-    let mut at = from;
-    while at < 256 {
-        let i = at / 32;
-        let old = w[seen + i];
-        let new = ((w[row + i] | old) ^ old) >> (at % 32);
-        if new != 0 {
-            return Some(at + new.trailing_zeros() as usize);
-        }
-        at = (i + 1) * 32;
-    }
-    None
+    first_from(|i| without(w[row + i], w[seen + i]), from)
 }
 
 // Makes every word zero.

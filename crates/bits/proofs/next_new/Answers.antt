@@ -1,28 +1,13 @@
-use Prim.Native.Nat.{◌+◌, ◌/◌}
-use native.Mathlib.Omega.{arith}
-use lib.Count.{count_trailing_zeros}
-use Rattle.bits.proofs.Rows.{new_in, new_below, first_new, none_then_first, none_then_none}
+-- `bits::next_new` meets its contract: the first bit of what one row has and the other has not.
+-- Assumes nothing.
+use Prim.Native.Nat.{◌+◌}
+use lib.ListN.{get_or}
+use Rattle.std.proofs.Common.{rules}
+use Rattle.bits.specs.Bits.{fresh}
+use Rattle.bits.proofs.Rows.{first_new}
 use Rattle.bits.proofs.next_new.Goals as goal
 
-pub returns-then-new-ne0-clause-first : goal.returns-then-new-ne0-clause-first
-returns-then-new-ne0-clause-first c =
+pub returns-clause-first : goal.returns-clause-first
+returns-clause-first c =
     let a = c.args in
-    let at = c.loop-at in
-    let r = new_in a.w.now a.row a.seen at.at in
-    none_then_first a.w.now a.row a.seen a.from at.at at.invariant (at.at + count_trailing_zeros 32 r)
-    (first_new a.w.now a.row a.seen at.at
-    (omega (arith, c.type_inv.w (a.row + at.at / 32)))
-    (omega (arith, c.type_inv.w (a.seen + at.at / 32))) (omega arith) (omega arith))
-
-pub returns-then-new-ne0-clause-below : goal.returns-then-new-ne0-clause-below
-returns-then-new-ne0-clause-below c =
-    let a = c.args in
-    let at = c.loop-at in
-    new_below a.w.now a.row a.seen at.at (omega (arith, c.type_inv.w (a.row + at.at / 32))) (omega (arith, c.type_inv.w (a.seen + at.at / 32))) (omega arith)
-    (omega arith)
-
-pub loop-at-preserved : goal.loop-at-preserved
-loop-at-preserved c =
-    let a = c.args in
-    let at = c.loop-at in
-    none_then_none a.w.now a.row a.seen a.from at.at at.invariant (omega arith) (omega arith)
+    first_new (c.first_from.ensures.first (λ i. fresh (get_or a.w.now (a.row + i) 0) (get_or a.w.now (a.seen + i) 0)) (λ i x h p. search rules))
