@@ -3,19 +3,18 @@
 use mathlib.Core.Path.{◌≡◌, refl, sym, ap, ◌∙◌}
 use mathlib.Core.Logic.{◌⊎◌, inl, inr, ⊎_elim}
 use mathlib.Core.List.{List}
-use Prim.Native.Nat.{ℕ, ◌+◌, ◌-◌, ◌*◌, ◌/◌, ◌%◌, ◌^◌, ◌≤◌, ◌<◌}
+use Prim.Native.Nat.{ℕ, ◌+◌, ◌-◌, ◌*◌, ◌/◌, ◌≤◌, ◌<◌}
 use native.Mathlib.Decide.{ℕ_discrete, dec_lt}
 use native.Mathlib.Omega.{arith}
-use lib.Bits.{bit_xor}
-use lib.Count.{count_trailing_zeros}
 use lib.ListN.{length, get_or, replicate, get_or-replicate}
 use Rattle.paths.specs.Graph.{Graph, Link, Way}
 use Rattle.paths.specs.Trimmed.{Implied}
 use Rattle.paths.proofs.Ways.{way_trans}
-use Rattle.bits.specs.Bits.{digit, bit, RowAdded}
+use Rattle.bits.specs.Bits.{digit, bit, fresh, RowAdded}
+use Rattle.bits.specs.Ones.{LowestTaken}
 use Rattle.bits.specs.Work.{links_at, ways_at, Matrix}
-use Rattle.bits.proofs.Digits.{digit_lt, Rest, rest_start, rest_here, rest_below, rest_on, rest_none, rest_end}
-use Rattle.bits.proofs.Rows.{bit_lt, bit_digit, bits_zero, fresh, fresh_one, digit_fresh}
+use Rattle.bits.proofs.Digits.{digit_lt, Rest, rest_start, rest_here, rest_on, rest_none, rest_end}
+use Rattle.bits.proofs.Rows.{bit_lt, bit_digit, bits_zero, fresh_one, digit_fresh}
 use Rattle.trimming.specs.Trimming.{Held, WaysAdded, HoldsImplied}
 
 -- ---- the rows of the bits of a word joined
@@ -30,55 +29,49 @@ pub record Taking (w : List ℕ) (x first : ℕ) (v v' : List ℕ) (rest : ℕ) 
   no_other : (c : ℕ) → c < 256 → bit v' 0 c ≡ 1
       → (bit v 0 c ≡ 1) ⊎ ((j : ℕ) × (j < 32) × (digit x j ≡ 1) × (bit w (ways_at + 8 * (first + j)) c ≡ 1))
 
-pub taking_start : (w : List ℕ) (x first : ℕ) (v : List ℕ) → x < 2 ^ 32 → Taking w x first v v x
-taking_start w x first v h =
+pub taking_start : (w : List ℕ) (x first : ℕ) (v : List ℕ) → Taking w x first v v x
+taking_start w x first v =
     record {
       same_length = refl;
       k = 0;
-      digits = rest_start x h;
+      digits = rest_start x;
       old = λ c hc o. o;
       new = λ j c l. absurd (omega arith);
       no_other = λ c hc o. inl o;
     }
 
 -- the row of the lowest digit of `rest`, which starts at word `row`, is joined
-module _ {w v v' u : List ℕ} {x first rest row : ℕ} (s : Taking w x first v v' rest) (some : 0 < rest)
-    (place : row ≡ ways_at + 8 * (first + count_trailing_zeros 32 rest)) (q : RowAdded w row v' u) where
+module _ {w v v' u : List ℕ} {x first rest row b less : ℕ} (s : Taking w x first v v' rest) (t : LowestTaken rest b less)
+    (place : row ≡ ways_at + 8 * (first + b)) (q : RowAdded w row v' u) where
   kept : (c : ℕ) → c < 256 → bit v' 0 c ≡ 1 → bit u 0 c ≡ 1
   kept c hc o = omega (arith, q.joined c hc, bit_lt w row c)
 
   here : (c : ℕ) → c < 256 → bit w row c ≡ 1 → bit u 0 c ≡ 1
   here c hc o = omega (arith, q.joined c hc, bit_lt v' 0 c)
 
-  pub taking_on : Taking w x first v u (bit_xor rest (1 * 2 ^ count_trailing_zeros 32 rest % 4294967296))
+  pub taking_on : Taking w x first v u less
   taking_on =
       record {
         same_length = q.same_length ∙ s.same_length;
-        k = count_trailing_zeros 32 rest + 1;
-        digits = rest_on s.digits some;
+        k = b + 1;
+        digits = rest_on s.digits t;
         old = λ c hc o. kept c hc (s.old c hc o);
-        new = λ j c l hc d o. new j c l hc d o (dec_lt j s.k) (ℕ_discrete j (count_trailing_zeros 32 rest));
+        new = λ j c l hc d o. new j c l hc d o (dec_lt j s.k) (ℕ_discrete j b);
         no_other = λ c hc o. no_other c hc o (ℕ_discrete (bit v' 0 c) 1);
       }
     where
-      new : (j c : ℕ) → j < count_trailing_zeros 32 rest + 1 → c < 256 → digit x j ≡ 1 → bit w (ways_at + 8 * (first + j)) c ≡ 1 → Dec (j < s.k)
-          → Dec (j ≡ count_trailing_zeros 32 rest) → bit u 0 c ≡ 1
+      new : (j c : ℕ) → j < b + 1 → c < 256 → digit x j ≡ 1 → bit w (ways_at + 8 * (first + j)) c ≡ 1 → Dec (j < s.k) → Dec (j ≡ b) → bit u 0 c ≡ 1
       new j c l hc d o (yes h) e = kept c hc (s.new j c h hc d o)
       new j c l hc d o (no h) (yes e) = here c hc (rw (place, sym e) o)
       new j c l hc d o (no h) (no ne) =
-          let z = rest_none s.digits some j (omega arith) (omega (arith, ne)) in
+          let z = rest_none s.digits t j (omega arith) (omega (arith, ne)) in
           absurd (omega arith)
 
       no_other : (c : ℕ) → c < 256 → bit u 0 c ≡ 1 → Dec (bit v' 0 c ≡ 1)
           → (bit v 0 c ≡ 1) ⊎ ((j : ℕ) × (j < 32) × (digit x j ≡ 1) × (bit w (ways_at + 8 * (first + j)) c ≡ 1))
       no_other c hc o (yes e) = s.no_other c hc e
       no_other c hc o (no ne) =
-          inr (
-            count_trailing_zeros 32 rest,
-            rest_below s.digits some,
-            rest_here s.digits some,
-            rw (sym place) (omega (arith, ne, q.joined c hc, bit_lt v' 0 c, bit_lt w row c)),
-          )
+          inr (b, t.below, rest_here s.digits t, rw (sym place) (omega (arith, ne, q.joined c hc, bit_lt v' 0 c, bit_lt w row c)))
 
 pub taking_end : {w v v' : List ℕ} {x first rest : ℕ} → Taking w x first v v' rest → rest ≡ 0 → WaysAdded w x first v v'
 taking_end {w} {v} {v'} {x} {first} s e =

@@ -6,7 +6,6 @@ use Prim.Native.Nat.{ℕ, zero, suc, ◌+◌, ◌-◌, ◌*◌, ◌≤◌, ◌<�
 use native.Mathlib.Decide.{ℕ_discrete}
 use native.Mathlib.Omega.{arith}
 use lib.Bits.{differ}
-use lib.Count.{count_trailing_zeros}
 use lib.Dec.{eqb}
 use lib.ListN.{length, get_or, set, length-append}
 use borrow.Author.Tests.{eqb-true, eq-eqb, ne_eqb}
@@ -20,10 +19,11 @@ use Rattle.paths.proofs.Passing.{passing_more, passing_le, passing_below, passin
 use Rattle.paths.proofs.Trimming.{stays_direct, direct_stays, trimmed_ends}
 use Rattle.logs.specs.Words.{word}
 use Rattle.logs.proofs.Words.{to_unpaused_lem}
-use Rattle.bits.specs.Bits.{digit, bit}
+use Rattle.bits.specs.Bits.{digit, bit, fresh}
+use Rattle.bits.specs.Ones.{LowestTaken}
 use Rattle.bits.specs.Work.{links_at}
-use Rattle.bits.proofs.Digits.{digit_lt, Rest, rest_here, rest_below, rest_least, rest_none, rest_end}
-use Rattle.bits.proofs.Rows.{bit_lt, bit_digit, fresh, digit_fresh}
+use Rattle.bits.proofs.Digits.{digit_lt, Rest, rest_here, rest_least, rest_none, rest_end}
+use Rattle.bits.proofs.Rows.{bit_lt, bit_digit, digit_fresh}
 use Rattle.writing.proofs.Listing.{Listing, listing_more, listing_skip}
 use Rattle.copying.specs.FairCopy.{linked_to, group}
 use Rattle.copying.proofs.Linked.{length_group, linked_to_mem, mem_linked_to}
@@ -44,27 +44,26 @@ module _ (first : ℕ) {test : ℕ → Bool} {o o' : List ℕ} {x rest k count :
       let e : first + (c - first) ≡ c = omega arith in
       rw e at (tells (c - first) (omega arith) ∙ ne_eqb (digit x (c - first)) 1 (λ f. omega (arith, none (c - first) (omega arith) (omega arith)))))
 
-  module _ (some : 0 < rest) where
-    passes : test (first + count_trailing_zeros 32 rest) ≡ true
-    passes = tells (count_trailing_zeros 32 rest) (rest_below r some) ∙ eq-eqb _ 1 (rest_here r some)
+  module _ {b less : ℕ} (t : LowestTaken rest b less) where
+    passes : test (first + b) ≡ true
+    passes = tells b t.below ∙ eq-eqb _ 1 (rest_here r t)
 
-    here : Listing test to_unpaused o o' 256 count (first + count_trailing_zeros 32 rest)
-    here = up_to (count_trailing_zeros 32 rest) (rest_least r some) (omega (arith, rest_below r some)) (rest_none r some)
+    here : Listing test to_unpaused o o' 256 count (first + b)
+    here = up_to b (rest_least r t) (omega (arith, t.below)) (rest_none r t)
 
     -- there is room for one more
     pub bit_room : length (passing test 256) < length o → count + 1 < length o
     bit_room room =
-        let t : ℕ = first + count_trailing_zeros 32 rest in
-        let more : length (passing test (t + 1)) ≡ length (passing test t) + 1 = rw (passing_more test t passes) (length-append (passing test t) (t ∷ [])) in
-        let le = passing_le test (t + 1) 256 (omega (arith, rest_below r some)) in
+        let more : length (passing test (first + b + 1)) ≡ length (passing test (first + b)) + 1 =
+        rw (passing_more test (first + b) passes) (length-append (passing test (first + b)) ((first + b) ∷ [])) in
+        let le = passing_le test (first + b + 1) 256 (omega (arith, t.below)) in
         omega (arith, here.size)
 
-    pub bit_written : length (passing test 256) < length o
-        → Listing test to_unpaused o (set o' (count + 1) (word 3 (first + count_trailing_zeros 32 rest))) 256 (count + 1) (first + (count_trailing_zeros 32 rest + 1))
+    pub bit_written : length (passing test 256) < length o → Listing test to_unpaused o (set o' (count + 1) (word 3 (first + b))) 256 (count + 1) (first + (b + 1))
     bit_written room =
-        let e : first + count_trailing_zeros 32 rest + 1 ≡ first + (count_trailing_zeros 32 rest + 1) = omega arith in
+        let e : first + b + 1 ≡ first + (b + 1) = omega arith in
         rw (e, to_unpaused_lem) at
-        (listing_more test to_unpaused o o' 256 count (first + count_trailing_zeros 32 rest) here (omega (arith, rest_below r some)) (bit_room room) passes)
+        (listing_more test to_unpaused o o' 256 count (first + b) here (omega (arith, t.below)) (bit_room room) passes)
 
   pub bits_written : rest ≡ 0 → Listing test to_unpaused o o' 256 count (first + 32)
   bits_written e = up_to 32 r.at_most (omega arith) (λ j lo hi. rest_end r e j lo)

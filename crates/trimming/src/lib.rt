@@ -16,28 +16,25 @@ use bits::{LINKS, WAYS};
 use logs::Kind;
 
 // Joins into `implied` the ways of the episodes that are the bits of `links`, counted from `first` on.
-fn join_ways(w: &[u32], links: u32, first: usize, implied: &mut [u32])
-    requires { (next_at ≤ length w.now) × (first + 32 ≤ 256) × (length implied.old ≡ 8) }
+fn join_ways(w: &[u32], links: u32, first: usize, implied: &mut [u32; 8])
+    requires { (next_at ≤ length w.now) × (first + 32 ≤ 256) }
     ensures { WaysAdded w.now links first implied.old implied.new }
 {
     let ways = WAYS + 8 * first;
-    let mut rest = links;
-    while rest != 0 {
-        let bit = u32::trailing_zeros(rest);
-        bits::join_into(w, ways + 8 * bit as usize, implied);
-        rest = rest ^ (1 << bit);
+    for bit in bits::ones_of(links) {
+        bits::join_into(w, ways + 8 * bit, implied);
     }
 }
 
 // Notes what is implied of the links in the row that starts at word `row`: joins the ways of each. A link that is implied itself has no way
 // that is not noted.
-fn note_implied(w: &[u32], row: usize, implied: &mut [u32])
+fn note_implied(w: &[u32], row: usize, implied: &mut [u32; 8])
     requires { (next_at ≤ length w.now) × (row + 8 ≤ ways_at) × (implied.old ≡ replicate 8 0) }
     ensures { (a : ℕ) → row ≡ links_at + 8 * a → HoldsImplied w.now a implied.new }
 {
+    // By index, since each word is read after the ways of those before it have been joined.
     for i in 0..8 {
-        let old = implied[i];
-        join_ways(w, (w[row + i] | old) ^ old, 32 * i, implied);
+        join_ways(w, bits::without(w[row + i], implied[i]), 32 * i, implied);
     }
 }
 
@@ -49,25 +46,21 @@ fn write_word(kept: u32, first: usize, links: usize, out: &mut [u32]) -> usize
         → length (passing test 256) < length o → Listing test to_unpaused o out.new 256 result (first + 32) }
 {
     let mut count = links;
-    let mut rest = kept;
-    while rest != 0 {
-        let bit = u32::trailing_zeros(rest);
+    for bit in bits::ones_of(kept) {
         count += 1;
-        out[count] = Kind::To.word(first + bit as usize);
-        rest = rest ^ (1 << bit);
+        out[count] = Kind::To.word(first + bit);
     }
     count
 }
 
 // Writes the group of `a`, whose links are the row that starts at word `row`, with those that are not implied, and gives their count.
-fn write_row(w: &[u32], a: usize, row: usize, implied: &[u32], out: &mut [u32]) -> usize
-    requires { (next_at ≤ length w.now) × (a < 256) × (row ≡ links_at + 8 * a) × (length implied.now ≡ 8) × (length (group a (no_pause a) (kept_to w.now a implied.now)) < length out.old) }
+fn write_row(w: &[u32], a: usize, row: usize, implied: &[u32; 8], out: &mut [u32]) -> usize
+    requires { (next_at ≤ length w.now) × (a < 256) × (row ≡ links_at + 8 * a) × (length (group a (no_pause a) (kept_to w.now a implied.now)) < length out.old) }
     ensures { GroupWritten a (no_pause a) (kept_to w.now a implied.now) out.old out.new result }
 {
     let mut links = 0;
-    for i in 0..8 {
-        let old = implied[i];
-        links = write_word((w[row + i] | old) ^ old, 32 * i, links, out);
+    for (i, old) in implied.iter().enumerate() {
+        links = write_word(bits::without(w[row + i], *old), 32 * i, links, out);
     }
     if links != 0 {
         out[0] = Kind::From.word(a);
@@ -82,7 +75,7 @@ fn trim_row(w: &[u32], n: usize, a: usize, out: &mut [u32]) -> usize
         → GroupWritten a (no_pause a) (linked_to a (trimmed g).links n) out.old out.new result }
 {
     let row = LINKS + 8 * a;
-    let mut implied = [0u32; 8];
+    let mut implied = [0; 8];
     note_implied(w, row, &mut implied);
     write_row(w, a, row, &implied, out)
 }

@@ -1,54 +1,54 @@
 -- The next step on a path: the links of an episode, one after the other, up to one that leads on.
 use Rattle.std.proofs.Math.Logic.{∥∥₁_elim}
-use Rattle.std.proofs.Props.{props}
-use mathlib.Core.Path.{◌≡◌}
+use mathlib.Core.Path.{◌≡◌, sym, ap, ◌∙◌}
 use mathlib.Core.Logic.{◌≢◌, inr}
 use mathlib.Core.List.{List}
-use Prim.Native.Nat.{ℕ, ◌+◌, ◌*◌, ◌/◌, ◌≤◌, ◌<◌}
+use Prim.Native.Nat.{ℕ, ◌+◌, ◌*◌, ◌≤◌, ◌<◌}
 use native.Mathlib.Decide.{dec_lt}
 use native.Mathlib.Omega.{arith}
 use Rattle.paths.specs.Graph.{Graph, Way, one, step}
-use Rattle.bits.specs.Bits.{bit, NextNew}
-use Rattle.bits.specs.Work.{links_at, ways_at, none_at}
-use Rattle.bits.proofs.Rows.{bits_zero}
+use Rattle.bits.specs.Bits.{bit}
+use Rattle.bits.specs.Ones.{BitGiven}
+use Rattle.bits.specs.declared.ones.Row.{Row}
+use Rattle.bits.specs.Work.{links_at, ways_at}
 use Rattle.writing.specs.Writing.{Solved, IsSolved, HopTo}
 
--- no link from `c` to one before `from` leads to `b`
-pub record Hopping (w : List ℕ) (c b from : ℕ) : Type 0 where
-  pub most : from ≤ 256
-  pub passed : (y : ℕ) → y < from → bit w (links_at + 8 * c) y ≡ 1 → bit w (ways_at + 8 * y) b ≢ 1
+-- `s` goes through the links of `c`, and none before its place leads to `b`
+pub record Hopping (w : List ℕ) (c b : ℕ) (s : Row) : Type 0 where
+  pub words : s.words.now ≡ w
+  pub row : s.row ≡ links_at + 8 * c
+  pub passed : (y : ℕ) → y < s.from → bit w (links_at + 8 * c) y ≡ 1 → bit w (ways_at + 8 * y) b ≢ 1
 
-module _ {w : List ℕ} {n c b from x : ℕ} (solved : IsSolved n w) (s : Hopping w c b from)
-    (next : NextNew w (links_at + 8 * c) none_at from x) where
-  -- nor does one to one before the next link
-  before : (y : ℕ) → y < x → bit w (links_at + 8 * c) y ≡ 1 → bit w (ways_at + 8 * y) b ≢ 1
-  before y l e = go (dec_lt y from)
-    where
-      none : y < 256 → bit w none_at y ≡ 0
-      none h =
-          ∥∥₁_elim solved (search props)
-          (λ (g, q). bits_zero w none_at y (q.none (none_at + y / 32) (omega arith) (omega arith)))
+pub hop_start : {w : List ℕ} {c b : ℕ} (s : Row) → s.words.now ≡ w → s.row ≡ links_at + 8 * c → s.from ≡ 0 → Hopping w c b s
+hop_start s e r z = record { words = e; row = r; passed = λ y l. absurd (omega arith) }
 
-      go : Dec (y < from) → bit w (ways_at + 8 * y) b ≢ 1
-      go (yes d) = s.passed y d e
-      go (no d) =
-          let m = next.at_most in
-          let one = next.passed y (omega arith) l e in
-          let z = none (omega arith) in
-          absurd (omega arith)
+module _ {w : List ℕ} {c b : ℕ} {s : Row} (h : Hopping w c b s) where
+  link_of : (y : ℕ) → bit s.words.now s.row y ≡ bit w (links_at + 8 * c) y
+  link_of y = ap (λ v. bit v s.row y) h.words ∙ ap (λ r. bit w r y) h.row
 
-  pub hop_next : x < 256 → bit w (ways_at + 8 * x) b ≢ 1 → Hopping w c b (x + 1)
-  hop_next h ne = record { most = omega arith; passed = λ y l e. go y e (dec_lt y x) (omega arith) }
-    where
-      go : (y : ℕ) → bit w (links_at + 8 * c) y ≡ 1 → Dec (y < x) → y ≤ x → bit w (ways_at + 8 * y) b ≢ 1
-      go y e (yes d) l = before y d e
-      go y e (no d) l = let q : y ≡ x = omega arith in rw q ne
+  -- to the next link
+  module _ {x : ℕ} {t : Row} (g : BitGiven s x t) where
+    pub hop_next : bit w (ways_at + 8 * x) b ≢ 1 → Hopping w c b t
+    hop_next ne =
+        record {
+          words = g.words ∙ h.words;
+          row = g.row ∙ h.row;
+          passed = λ y l e. go y e (dec_lt y s.from) (dec_lt y x) (omega (arith, g.from));
+        }
+      where
+        go : (y : ℕ) → bit w (links_at + 8 * c) y ≡ 1 → Dec (y < s.from) → Dec (y < x) → y ≤ x → bit w (ways_at + 8 * y) b ≢ 1
+        go y e (yes d) q l = h.passed y d e
+        go y e (no d) (yes q) l = absurd (omega (arith, link_of y, g.passed y (omega arith) q))
+        go y e (no d) (no q) l = let f : y ≡ x = omega arith in rw f ne
 
-  pub hop_nearer : x < 256 → bit w (ways_at + 8 * x) b ≡ 1 → HopTo w c b x
-  hop_nearer h e = record { below = h; link = (next.new h).0; nearer = inr e }
+    pub hop_nearer : bit w (ways_at + 8 * x) b ≡ 1 → HopTo w c b x
+    hop_nearer e = record { below = g.below; link = sym (link_of x) ∙ g.here; nearer = inr e }
 
-  pub hop_done : c < n → b < n → bit w (ways_at + 8 * c) b ≡ 1 → bit w (links_at + 8 * c) b ≢ 1 → n ≤ x → ⊥
-  hop_done cl bl e none h = ∥∥₁_elim solved (λ a b. absurd a) (λ (g, q). through g q (q.ways.sound c b (omega (arith, q.few)) (omega (arith, q.few)) e))
+  -- one leads there
+  pub hop_done : {n : ℕ} → IsSolved n w → c < n → b < n → bit w (ways_at + 8 * c) b ≡ 1 → bit w (links_at + 8 * c) b ≢ 1
+      → ((y : ℕ) → s.from ≤ y → y < 256 → bit s.words.now s.row y ≡ 0) → ⊥
+  hop_done {n} solved cl bl e none left =
+      ∥∥₁_elim solved (λ a b. absurd a) (λ (g, q). through g q (q.ways.sound c b (omega (arith, q.few)) (omega (arith, q.few)) e))
     where
       through : (g : Graph) → Solved g n w → Way g c b → ⊥
       through g q (one l) = none (q.links.complete c b (omega (arith, q.few)) (omega (arith, q.few)) l)
@@ -56,4 +56,9 @@ module _ {w : List ℕ} {n c b from x : ℕ} (solved : IsSolved n w) (s : Hoppin
           let yl = (q.ends c y l).1 in
           let count = q.count in
           let few = q.few in
-          before y (omega arith) (q.links.complete c y (omega arith) (omega arith) l) (q.ways.complete y b (omega arith) (omega arith) p)
+          let link = q.links.complete c y (omega arith) (omega arith) l in
+          go y (omega arith) link (q.ways.complete y b (omega arith) (omega arith) p) (dec_lt y s.from)
+        where
+          go : (y : ℕ) → y < 256 → bit w (links_at + 8 * c) y ≡ 1 → bit w (ways_at + 8 * y) b ≡ 1 → Dec (y < s.from) → ⊥
+          go y l link way (yes d) = h.passed y d link way
+          go y l link way (no d) = absurd (omega (arith, link_of y, left y (omega arith) l))

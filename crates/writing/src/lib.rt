@@ -11,7 +11,7 @@ ghost use Rattle.writing.specs.Layout.{report_need};
 ghost use Rattle.writing.specs.Path.{PathWritten};
 ghost use Rattle.writing.specs.Writing.{Solved, IsSolved, ApartWritten, StartOf, HopTo, ThreadWritten, ThreadsWritten, ReportWritten, Looping, LoopWritten};
 
-use bits::{LINKS, NONE, SEEN, WAYS};
+use bits::{LINKS, SEEN, WAYS};
 use logs::Kind;
 
 // The work words of a solved graph with so many episodes: its links, its ways, as few chains as can be, and the search that shows it.
@@ -81,12 +81,10 @@ impl Chains<'_> {
         // Where each row of ways has its bit `b`.
         let column = WAYS + b / 32;
         let digit = b % 32;
-        let mut from = 0;
-        while let Some(x) = bits::next_new(self.words, row, NONE, from) {
+        for x in bits::bits_of(self.words, row) {
             if bits::digit_at(self.words, column + 8 * x, digit) {
                 return x;
             }
-            from = x + 1;
         }
         b
     }

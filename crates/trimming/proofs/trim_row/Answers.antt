@@ -12,7 +12,6 @@ write_row-requires c =
       held.long,
       omega (arith, held.few),
       refl,
-      omega arith,
       rw (row_stays noted.new.implied held c.requires.1 (noted.ensures c.args.a refl)) fits,
     )
 
