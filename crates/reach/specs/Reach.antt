@@ -1,5 +1,5 @@
 -- What the steps from a log to its matrix of ways leave.
-use Rattle.std.specs.Prelude.{◌≡◌, Option, Some, None, ℕ, ◌+◌, ◌*◌, ◌≤◌, ◌<◌, max, min, length, get_or}
+use Rattle.std.specs.Prelude.{◌≡◌, Option, Some, None, ℕ, ◌+◌, ◌*◌, ◌≤◌, ◌<◌, max, min, get_or}
 use mathlib.Core.List.{List, ◌++◌, map, Memᴰ as Mem}
 use Rattle.logs.specs.Words.{to_episode}
 use Rattle.paths.specs.Graph.{Graph, EndsBelow, Link, Way}

@@ -43,8 +43,8 @@ fn copy_links(w: &mut [u32])
 }
 
 // Where `a` has a way to `k`, gives it the ways of `k`, which are `ways`.
-fn close_row(w: &mut [u32], a: usize, k: usize, ways: &[u32])
-    requires { (next_at ≤ length w.old) × (a < 256) × (k < 256) × (length ways.now ≡ 8) × HoldsWays w.old k ways.now }
+fn close_row(w: &mut [u32], a: usize, k: usize, ways: &[u32; 8])
+    requires { (next_at ≤ length w.old) × (a < 256) × (k < 256) × HoldsWays w.old k ways.now }
     ensures { RowClosed w.old w.new a k }
 {
     let row = WAYS + 8 * a;

@@ -13,9 +13,9 @@ use Rattle.paths.proofs.Ways.{way_trans, way_first}
 use Rattle.std.specs.Prelude.{Option, Some, None, IfSome}
 use Rattle.std.specs.Option.{is_some}
 use mathlib.Core.Bool.{true, true≢false}
-use Rattle.bits.specs.Bits.{bit, BitSet, RowJoined, FirstBit, NextNew, place_or_end}
+use Rattle.bits.specs.Bits.{bit, fresh, BitSet, RowJoined, FirstBit, NextNew, place_or_end}
 use Rattle.bits.specs.Work.{links_at, ways_at, Matrix, Outside, next_at}
-use Rattle.bits.proofs.Rows.{bit_lt, bits_zero, fresh, fresh_one, bit_fresh}
+use Rattle.bits.proofs.Rows.{bit_lt, bits_zero, fresh_one, bit_fresh}
 use Rattle.bits.proofs.Frames.{outside_none, outside_more, outside_then, outside_wider, set_outside, joined_outside}
 use Rattle.bits.proofs.Frames.{bit_before, matrix_before, row_other}
 use Rattle.rising.specs.Rising.{NoWays, BitsRise, LinksRise, WayFrom, EndsTaken, LinkedFrom, RowReached, LinkNoted, RisingReached}

@@ -23,20 +23,20 @@ pub fn rises(w: &[u32], n: usize) -> bool
 }
 
 // Gives the ways of an episode, which start at word `ways`, its links to episodes that are not in `linked`; its links start at word `links`.
-fn take_ends(w: &mut [u32], links: usize, ways: usize, linked: &[u32])
-    requires { (links + 8 ≤ ways) × (ways + 8 ≤ length w.old) × (length linked.now ≡ 8) }
+fn take_ends(w: &mut [u32], links: usize, ways: usize, linked: &[u32; 8])
+    requires { (links + 8 ≤ ways) × (ways + 8 ≤ length w.old) }
     ensures { (a : ℕ) → links ≡ links_at + 8 * a → ways ≡ ways_at + 8 * a
         → EndsTaken w.old w.new a linked.now }
 {
     for (i, old) in linked.iter().enumerate() {
-        w[ways + i] = (w[links + i] | *old) ^ *old;
+        w[ways + i] = bits::without(w[links + i], *old);
     }
 }
 
 // Gives `a` its ways, where links rise, all above `a` have theirs, and those of them that have links are in `linked`: first the links to
 // episodes without links, then each link that is not among the ways yet, and the ways from there.
-fn reach_row(w: &mut [u32], a: usize, linked: &[u32])
-    requires { (next_at ≤ length w.old) × (a < 256) × (length linked.now ≡ 8) }
+fn reach_row(w: &mut [u32], a: usize, linked: &[u32; 8])
+    requires { (next_at ≤ length w.old) × (a < 256) }
     ensures { RowReached w.old w.new a linked.now }
 {
     let links = LINKS + 8 * a;
@@ -51,8 +51,8 @@ fn reach_row(w: &mut [u32], a: usize, linked: &[u32])
 }
 
 // Notes in `linked` whether `a` has a link.
-fn note_linked(w: &[u32], a: usize, linked: &mut [u32])
-    requires { (next_at ≤ length w.now) × (a < 256) × (length linked.old ≡ 8) }
+fn note_linked(w: &[u32], a: usize, linked: &mut [u32; 8])
+    requires { (next_at ≤ length w.now) × (a < 256) }
     ensures { LinkNoted w.now a linked.old linked.new }
 {
     if bits::first_bit(w, LINKS + 8 * a).is_some() {
