@@ -92,6 +92,21 @@ unfolding count_trailing_zeros
 digit_below zero x i h = absurd (omega arith)
 digit_below (suc k) x i h = under_below (x % 2) (count_trailing_zeros k (x / 2)) x i refl (λ j l. digit_below k (x / 2) j l) h
 
+-- ---- the digits that one has and another has not
+
+less_or_none : (x y : ℕ) → x < 2 → y < 2 → differ (max x y) y ≡ x - y
+less_or_none zero zero h k = refl
+less_or_none zero (suc zero) h k = refl
+less_or_none (suc zero) zero h k = refl
+less_or_none (suc zero) (suc zero) h k = refl
+less_or_none x (suc (suc y)) h k = absurd (omega arith)
+less_or_none (suc (suc x)) y h k = absurd (omega arith)
+
+pub digit_without : (x y i : ℕ) → digit (bit_xor (bit_or x y) y) i ≡ digit x i - digit y i
+digit_without x y i =
+    digit_xor (bit_or x y) y i ∙ ap (λ (d : ℕ). differ d (digit y i)) (digit_or x y i)
+    ∙ less_or_none (digit x i) (digit y i) (digit_lt x i) (digit_lt y i)
+
 -- ---- the digits of a word that are one, from the lowest on
 
 differ_none : (x : ℕ) → differ x 0 ≡ x

@@ -5,19 +5,19 @@ use mathlib.Core.Bool.{true, false, true≢false}
 use lib.Dec.{eqb}
 use Rattle.std.proofs.lemmas.Bool.{eqb-true, eq-eqb}
 use mathlib.Core.List.{List}
-use Prim.Native.Nat.{ℕ, zero, suc, ◌+◌, ◌-◌, ◌*◌, ◌/◌, ◌%◌, ◌^◌, ◌≤◌, ◌<◌, max}
+use Prim.Native.Nat.{ℕ, ◌+◌, ◌-◌, ◌*◌, ◌/◌, ◌%◌, ◌^◌, ◌≤◌, ◌<◌, max}
 use native.Mathlib.Decide.{dec_lt, ℕ_discrete}
 use native.Mathlib.Nat.{mod-lt, div-eq_of_lt, div-le_self, zero-lt-suc, lt_of_lt_of_le, lt_of_le_of_lt}
 use native.Mathlib.Omega.{arith}
 use lib.ListN.{length, get_or, set, length-set}
 use lib.Seq.{get_or-set_same, get_or-set_other}
 use lib.Pow.{pow_mono}
-use lib.Bits.{bit_or, differ}
+use lib.Bits.{bit_or}
 use lib.Count.{count_trailing_zeros}
-use Rattle.bits.specs.Bits.{digit, bit, fresh, BitSet, RowAdded, FirstFrom, NextNew}
+use Rattle.bits.specs.Bits.{digit, bit, BitSet, RowAdded, FirstFrom, WordOf, NextNew}
 use Rattle.bits.specs.Ones.{BitGiven}
 use Rattle.bits.specs.declared.ones.Row.{Row}
-use Rattle.bits.proofs.Digits.{mask, digit_lt, digit_or, digit_xor, digit_shr, digit_one, digit_other, digit_trailing, digit_below, digit_none}
+use Rattle.bits.proofs.Digits.{mask, digit_lt, digit_or, digit_shr, digit_one, digit_other, digit_trailing, digit_below, digit_none}
 
 pub bit_lt : (w : List ℕ) (row b : ℕ) → bit w row b < 2
 unfolding bit
@@ -178,22 +178,22 @@ module _ (x s : ℕ) (h : x < 2 ^ 32) where
 pub first_below : (at x : ℕ) → at < 256 → x < 2 ^ 32 → 0 < x / 2 ^ (at % 32) → at + count_trailing_zeros 32 (x / 2 ^ (at % 32)) < 256
 first_below at x l h p = omega (arith, first_within x (at % 32) h p)
 
--- no bit from `from` on and before `at`, in the row whose words are `f 0` to `f 7`
-pub record NoneFrom (f : ℕ → ℕ) (from at : ℕ) : Type 0 where
+-- no bit from `from` on and before `at`
+pub record NoneFrom (bits : ℕ → ℕ) (from at : ℕ) : Type 0 where
   pub at_least : from ≤ at
   pub at_most : at ≤ 256
-  pub passed : (c : ℕ) → from ≤ c → c < at → digit (f (c / 32)) (c % 32) ≡ 0
+  pub passed : (c : ℕ) → from ≤ c → c < at → bits c ≡ 0
 
-pub none_yet : (f : ℕ → ℕ) (from : ℕ) → from ≤ 256 → NoneFrom f from from
-none_yet f from h = record { at_least = omega arith; at_most = h; passed = λ c lo hi. absurd (omega arith) }
+pub none_yet : (bits : ℕ → ℕ) (from : ℕ) → from ≤ 256 → NoneFrom bits from from
+none_yet bits from h = record { at_least = omega arith; at_most = h; passed = λ c lo hi. absurd (omega arith) }
 
 -- `x` is the word of the bit `at`
-module _ (f : ℕ → ℕ) (from at x : ℕ) (none : NoneFrom f from at) (l : at < 256) (h : x < 2 ^ 32) (e : x ≡ f (at / 32)) where
+module _ (bits : ℕ → ℕ) (from at x : ℕ) (none : NoneFrom bits from at) (l : at < 256) (h : x < 2 ^ 32) (word : WordOf bits (at / 32) x) where
   -- a bit of that word
-  in_word : (c : ℕ) → c / 32 ≡ at / 32 → digit (f (c / 32)) (c % 32) ≡ digit x (c % 32)
-  in_word c q = rw q (ap (λ (y : ℕ). digit y (c % 32)) (sym e))
+  in_word : (c : ℕ) → c / 32 ≡ at / 32 → bits c ≡ digit x (c % 32)
+  in_word c q = let e : 32 * (at / 32) + c % 32 ≡ c = omega arith in rw e at (sym (word (c % 32) (omega arith)))
 
-  pub none_then_first : 0 < x / 2 ^ (at % 32) → FirstFrom f from (at + count_trailing_zeros 32 (x / 2 ^ (at % 32)))
+  pub none_then_first : 0 < x / 2 ^ (at % 32) → FirstFrom bits from (at + count_trailing_zeros 32 (x / 2 ^ (at % 32)))
   none_then_first p =
       let t : ℕ = count_trailing_zeros 32 (x / 2 ^ (at % 32)) in
       let within = first_within x (at % 32) h p in
@@ -205,20 +205,20 @@ module _ (f : ℕ → ℕ) (from at x : ℕ) (none : NoneFrom f from at) (l : at
         passed = λ c lo hi. go c lo hi (dec_lt c at);
       }
     where
-      go : (c : ℕ) → from ≤ c → c < at + count_trailing_zeros 32 (x / 2 ^ (at % 32)) → Dec (c < at) → digit (f (c / 32)) (c % 32) ≡ 0
+      go : (c : ℕ) → from ≤ c → c < at + count_trailing_zeros 32 (x / 2 ^ (at % 32)) → Dec (c < at) → bits c ≡ 0
       go c lo hi (yes b) = none.passed c lo b
       go c lo hi (no b) =
           let within = first_within x (at % 32) h p in
           in_word c (omega arith) ∙ zeros_before x (at % 32) h p (c % 32) (omega arith) (omega arith)
 
-  pub none_then_none : x / 2 ^ (at % 32) ≡ 0 → NoneFrom f from ((at / 32 + 1) * 32)
+  pub none_then_none : x / 2 ^ (at % 32) ≡ 0 → NoneFrom bits from ((at / 32 + 1) * 32)
   none_then_none z = record { at_least = omega (arith, none.at_least); at_most = omega arith; passed = λ c lo hi. go c lo hi (dec_lt c at) }
     where
-      go : (c : ℕ) → from ≤ c → c < (at / 32 + 1) * 32 → Dec (c < at) → digit (f (c / 32)) (c % 32) ≡ 0
+      go : (c : ℕ) → from ≤ c → c < (at / 32 + 1) * 32 → Dec (c < at) → bits c ≡ 0
       go c lo hi (yes b) = none.passed c lo b
       go c lo hi (no b) = in_word c (omega arith) ∙ zeros_behind x (at % 32) h z (c % 32) (omega arith)
 
-pub none_at_all : {f : ℕ → ℕ} {from at : ℕ} → NoneFrom f from at → 256 ≤ at → FirstFrom f from 256
+pub none_at_all : {bits : ℕ → ℕ} {from at : ℕ} → NoneFrom bits from at → 256 ≤ at → FirstFrom bits from 256
 none_at_all none h =
     record {
       at_least = omega (arith, none.at_least, none.at_most);
@@ -227,52 +227,29 @@ none_at_all none h =
       passed = λ c lo hi. none.passed c lo (omega arith);
     }
 
--- ---- the first bit that is new
+-- ---- the bits that are new
 
-pub fresh_one : (x y : ℕ) → x < 2 → y < 2 → differ (max x y) y ≡ 1 → (x ≡ 1) × (y ≡ 0)
-fresh_one zero zero h k e = absurd (omega arith)
-fresh_one zero (suc zero) h k e = absurd (omega arith)
-fresh_one (suc zero) zero h k e = (refl, refl)
-fresh_one (suc zero) (suc zero) h k e = absurd (omega arith)
-fresh_one zero (suc (suc y)) h k e = absurd (omega arith)
-fresh_one (suc zero) (suc (suc y)) h k e = absurd (omega arith)
-fresh_one (suc (suc x)) y h k e = absurd (omega arith)
+-- what one row has and another has not, in its word `i`
+module _ (u v : List ℕ) (row seen : ℕ) where
+  pub new_word : (i x : ℕ) → ((j : ℕ) → digit x j ≡ digit (get_or u (row + i) 0) j - digit (get_or v (seen + i) 0) j)
+      → WordOf (λ c. bit u row c - bit v seen c) i x
+  new_word i x d j h = d j ∙ sym (ap₂ ◌-◌ (bit_digit u row i j h) (bit_digit v seen i j h))
 
-fresh_zero : (x y : ℕ) → x < 2 → y < 2 → differ (max x y) y ≡ 0 → x ≡ 1 → y ≡ 1
-fresh_zero zero zero h k e f = absurd (omega arith)
-fresh_zero (suc zero) zero h k e f = absurd (omega arith)
-fresh_zero (suc (suc x)) zero h k e f = absurd (omega arith)
-fresh_zero x (suc zero) h k e f = refl
-fresh_zero x (suc (suc y)) h k e f = absurd (omega arith)
+  pub new_bit : (c : ℕ) → bit u row c - bit v seen c ≡ 1 → (bit u row c ≡ 1) × (bit v seen c ≡ 0)
+  new_bit c e = let k = bit_lt u row c in (omega arith, omega arith)
 
-pub digit_fresh : (r o i : ℕ) → digit (fresh r o) i ≡ differ (max (digit r i) (digit o i)) (digit o i)
-digit_fresh r o i = digit_xor (bit_or r o) o i ∙ ap (λ (x : ℕ). differ x (digit o i)) (digit_or r o i)
-
--- a word that is what is fresh in another: its bits
-pub bit_fresh : (u v w : List ℕ) (row seen to c : ℕ) → get_or w (to + c / 32) 0 ≡ fresh (get_or u (row + c / 32) 0) (get_or v (seen + c / 32) 0)
-    → bit w to c ≡ differ (max (bit u row c) (bit v seen c)) (bit v seen c)
-unfolding bit
-bit_fresh u v w row seen to c e = ap (λ (x : ℕ). digit x (c % 32)) e ∙ digit_fresh _ _ (c % 32)
-
-pub first_new : {w : List ℕ} {row seen from r : ℕ} → FirstFrom (λ i. fresh (get_or w (row + i) 0) (get_or w (seen + i) 0)) from r
-    → NextNew w row seen from r
-unfolding bit
+pub first_new : {w : List ℕ} {row seen from r : ℕ} → FirstFrom (λ c. bit w row c - bit w seen c) from r → NextNew w row seen from r
 first_new {w} {row} {seen} {from} {r} f =
     record {
       at_least = f.at_least;
       at_most = f.at_most;
-      new = λ h. fresh_one _ _ (digit_lt _ (r % 32)) (digit_lt _ (r % 32)) (sym (digit_fresh _ _ (r % 32)) ∙ f.here h);
-      passed = λ c lo hi. fresh_zero _ _ (digit_lt _ (c % 32)) (digit_lt _ (c % 32)) (sym (digit_fresh _ _ (c % 32)) ∙ f.passed c lo hi);
+      new = λ h. new_bit w w row seen r (f.here h);
+      passed = λ c lo hi o. omega (arith, f.passed c lo hi, bit_lt w seen c);
     }
 
 -- ---- the bits of a row, one by one
 
-pub bit_given : (s t : Row) (b : ℕ) → FirstFrom (λ i. get_or s.words.now (s.row + i) 0) s.from b → b < 256 → t.words.now ≡ s.words.now → t.row ≡ s.row
+pub bit_given : (s t : Row) (b : ℕ) → FirstFrom (bit s.words.now s.row) s.from b → b < 256 → t.words.now ≡ s.words.now → t.row ≡ s.row
     → t.from ≡ b + 1 → BitGiven s b t
-unfolding bit
 bit_given s t b f h w r e =
     record { words = w; row = r; from = e; at_least = f.at_least; below = h; here = f.here h; passed = f.passed }
-
-pub no_bit_left : (w : List ℕ) (row from : ℕ) → FirstFrom (λ i. get_or w (row + i) 0) from 256 → (c : ℕ) → from ≤ c → c < 256 → bit w row c ≡ 0
-unfolding bit
-no_bit_left w row from f c = f.passed c

@@ -1,5 +1,4 @@
 -- Rows of bits in a list of 32-bit words: 8 words to a row, 32 bits to a word, the lowest first.
-use lib.Bits.{bit_or, bit_xor}
 use Rattle.std.specs.Prelude.{◌≡◌, Option, Some, None, ◌≢◌, List, ℕ, zero, suc, ◌+◌, ◌*◌, ◌/◌, ◌%◌, ◌^◌, ◌≤◌, ◌<◌, max, length, get_or}
 
 -- digit `i` of `x`, in binary
@@ -9,10 +8,6 @@ digit x i = x / 2 ^ i % 2
 -- bit `b` of the row that starts at word `row`
 unfoldable pub bit : List ℕ → ℕ → ℕ → ℕ
 bit w row b = get_or w (row + b / 32) 0 / 2 ^ (b % 32) % 2
-
--- the digits that `x` has and `y` has not
-abbrev pub fresh : ℕ → ℕ → ℕ
-fresh x y = bit_xor (bit_or x y) y
 
 -- `w'` is `w` with bit `b` of the row at `row` set
 pub record BitSet (w w' : List ℕ) (row b : ℕ) : Type 0 where
@@ -45,12 +40,16 @@ pub record RowTaken (w : List ℕ) (row : ℕ) (v : List ℕ) : Type 0 where
   pub eight : length v ≡ 8
   pub taken : (b : ℕ) → b < 256 → bit v 0 b ≡ bit w row b
 
--- `r` is the first bit from `from` on of the row whose words are `f 0` to `f 7`, or 256
-pub record FirstFrom (f : ℕ → ℕ) (from r : ℕ) : Type 0 where
+-- `r` is the first from `from` on of the 256 bits, or 256
+pub record FirstFrom (bits : ℕ → ℕ) (from r : ℕ) : Type 0 where
   pub at_least : from ≤ r
   pub at_most : r ≤ 256
-  pub here : r < 256 → digit (f (r / 32)) (r % 32) ≡ 1
-  pub passed : (c : ℕ) → from ≤ c → c < r → digit (f (c / 32)) (c % 32) ≡ 0
+  pub here : r < 256 → bits r ≡ 1
+  pub passed : (c : ℕ) → from ≤ c → c < r → bits c ≡ 0
+
+-- the digits of `x` are those of word `i` of the 256 bits
+abbrev pub WordOf : (ℕ → ℕ) → ℕ → ℕ → Type 0
+WordOf bits i x = (j : ℕ) → j < 32 → digit x j ≡ bits (32 * i + j)
 
 -- `r` is the first bit of the row at `row`, or 256
 pub record FirstBit (w : List ℕ) (row r : ℕ) : Type 0 where

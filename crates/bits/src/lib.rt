@@ -1,8 +1,8 @@
 // Rows of bits in lent words: 8 words, 256 bits, to a row.
 #![tactic(auto)]
 
-ghost use Rattle.std.specs.Prelude.{◌≡◌, ℕ, ◌+◌, ◌*◌, ◌/◌, ◌<◌, ◌≤◌, IfSome, eqb, length, get_or, replicate};
-ghost use Rattle.bits.specs.Bits.{digit, bit, fresh, BitSet, RowJoined, RowAdded, RowGained, RowTaken, RowCopied, FirstFrom, FirstBit, NextNew, place_or_end};
+ghost use Rattle.std.specs.Prelude.{◌≡◌, ℕ, ◌+◌, ◌-◌, ◌*◌, ◌/◌, ◌<◌, ◌≤◌, IfSome, eqb, length, get_or, replicate};
+ghost use Rattle.bits.specs.Bits.{digit, bit, BitSet, RowJoined, RowAdded, RowGained, RowTaken, RowCopied, FirstFrom, WordOf, FirstBit, NextNew, place_or_end};
 
 pub mod ones;
 
@@ -109,7 +109,7 @@ pub fn copy_row(w: &mut [u32], to: usize, from: usize)
 
 // The bits that `word` has and `other` has not.
 pub fn without(word: u32, other: u32) -> u32
-    ensures { result ≡ fresh word other }
+    ensures { (i : ℕ) → digit result i ≡ digit word i - digit other i }
 {
     (word | other) ^ other
 }
@@ -118,7 +118,7 @@ pub fn without(word: u32, other: u32) -> u32
 fn first_from<F: Fn(usize) -> u32>(word_of: F, from: usize) -> Option<usize>
     requires called { (i : ℕ) → i < 8 → F.pre word_of i }
     requires within { from ≤ 256 }
-    ensures first { (f : ℕ → ℕ) → ((i x : ℕ) → i < 8 → F.post word_of i x → x ≡ f i) → FirstFrom f from (place_or_end result) }
+    ensures first { (bits : ℕ → ℕ) → ((i x : ℕ) → i < 8 → F.post word_of i x → WordOf bits i x) → FirstFrom bits from (place_or_end result) }
     ensures below { IfSome result (λ b. b < 256) }
 {
     let mut at = from;

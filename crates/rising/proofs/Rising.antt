@@ -1,11 +1,10 @@
 -- Links that rise: the ways from one episode, of those from the episodes above it; and so from the last episode to the first.
-use mathlib.Core.Path.{◌≡◌, refl, sym, ◌∙◌}
+use mathlib.Core.Path.{◌≡◌, sym, ◌∙◌}
 use mathlib.Core.Logic.{◌⊎◌, inl, inr}
 use mathlib.Core.List.{List}
-use Prim.Native.Nat.{ℕ, ◌+◌, ◌*◌, ◌/◌, ◌≤◌, ◌<◌, max}
+use Prim.Native.Nat.{ℕ, ◌+◌, ◌-◌, ◌*◌, ◌/◌, ◌%◌, ◌≤◌, ◌<◌}
 use native.Mathlib.Decide.{ℕ_discrete, dec_lt}
 use native.Mathlib.Omega.{arith}
-use lib.Bits.{differ}
 use lib.ListN.{length, get_or, set}
 use lib.Seq.{get_or-set_same, get_or-set_other}
 use Rattle.paths.specs.Graph.{Graph, EndsBelow, Link, Way, one, step}
@@ -13,9 +12,9 @@ use Rattle.paths.proofs.Ways.{way_trans, way_first}
 use Rattle.std.specs.Prelude.{Option, Some, None, IfSome}
 use Rattle.std.specs.Option.{is_some}
 use mathlib.Core.Bool.{true, true≢false}
-use Rattle.bits.specs.Bits.{bit, fresh, BitSet, RowJoined, FirstBit, NextNew, place_or_end}
+use Rattle.bits.specs.Bits.{digit, bit, BitSet, RowJoined, FirstBit, NextNew, place_or_end}
 use Rattle.bits.specs.Work.{links_at, ways_at, Matrix, Outside, next_at}
-use Rattle.bits.proofs.Rows.{bit_lt, bits_zero, fresh_one, bit_fresh}
+use Rattle.bits.proofs.Rows.{bit_lt, bits_zero, new_bit}
 use Rattle.bits.proofs.Frames.{outside_none, outside_more, outside_then, outside_wider, set_outside, joined_outside}
 use Rattle.bits.proofs.Frames.{bit_before, matrix_before, row_other}
 use Rattle.rising.specs.Rising.{NoWays, BitsRise, LinksRise, WayFrom, EndsTaken, LinkedFrom, RowReached, LinkNoted, RisingReached}
@@ -83,48 +82,51 @@ reaching_end rise h r c hc (step {a = a} {b = d} l w) =
 
 -- ---- links to episodes without links
 
+-- `x` has the digits that `y` has and `z` has not
+abbrev Ends : ℕ → ℕ → ℕ → Type 0
+Ends x y z = (d : ℕ) → digit x d ≡ digit y d - digit z d
+
 -- The first `i` words of the row at `ways` are those of the row at `links`, without those of `linked`.
 pub record Taking (w w' : List ℕ) (links ways : ℕ) (linked : List ℕ) (i : ℕ) : Type 0 where
   pub outside : Outside ways (ways + 8) w w'
   pub at_most : i ≤ 8
-  pub words : (j : ℕ) → j < i → get_or w' (ways + j) 0 ≡ fresh (get_or w (links + j) 0) (get_or linked j 0)
+  pub words : (j : ℕ) → j < i → Ends (get_or w' (ways + j) 0) (get_or w (links + j) 0) (get_or linked j 0)
 
 pub taking_start : (w : List ℕ) (links ways : ℕ) (linked : List ℕ) → Taking w w links ways linked 0
 taking_start w links ways linked =
     record { outside = outside_none ways (ways + 8) w; at_most = omega arith; words = λ j h. absurd (omega arith) }
 
 module _ {w w' : List ℕ} {links ways : ℕ} {linked : List ℕ} {i : ℕ} (s : Taking w w' links ways linked i) where
-  abbrev taken : ℕ
-  taken = fresh (get_or w' (links + i) 0) (get_or linked i 0)
-
-  pub taking_on : links + 8 ≤ ways → ways + 8 ≤ length w → i < 8 → Taking w (set w' (ways + i) taken) links ways linked (i + 1)
-  taking_on apart fits hi =
+  pub taking_on : (x : ℕ) → Ends x (get_or w' (links + i) 0) (get_or linked i 0) → links + 8 ≤ ways → ways + 8 ≤ length w → i < 8
+      → Taking w (set w' (ways + i) x) links ways linked (i + 1)
+  taking_on x ends apart fits hi =
       record {
-        outside = outside_more (ways + i) taken (omega arith) (omega arith) s.outside;
+        outside = outside_more (ways + i) x (omega arith) (omega arith) s.outside;
         at_most = omega arith;
         words = λ j h. words j h (ℕ_discrete j i);
       }
     where
-      words : (j : ℕ) → j < i + 1 → Dec (j ≡ i) → get_or (set w' (ways + i) taken) (ways + j) 0 ≡ fresh (get_or w (links + j) 0) (get_or linked j 0)
+      words : (j : ℕ) → j < i + 1 → Dec (j ≡ i) → Ends (get_or (set w' (ways + i) x) (ways + j) 0) (get_or w (links + j) 0) (get_or linked j 0)
       words j h (yes e) =
           let same : get_or w' (links + i) 0 ≡ get_or w (links + i) 0 = s.outside.before (links + i) (omega arith) in
-          rw e (get_or-set_same w' (ways + i) taken 0 (omega (arith, s.outside.same_length)) ∙ rw same refl)
-      words j h (no ne) = get_or-set_other w' (ways + i) (ways + j) taken 0 (λ e. ne (omega arith)) ∙ s.words j (omega (arith, ne))
+          rw (e, get_or-set_same w' (ways + i) x 0 (omega (arith, s.outside.same_length))) (rw same at ends)
+      words j h (no ne) = rw (get_or-set_other w' (ways + i) (ways + j) x 0 (λ e. ne (omega arith))) (s.words j (omega (arith, ne)))
 
   -- the rows of `a`
   pub taking_end : 8 ≤ i → (a : ℕ) → links ≡ links_at + 8 * a → ways ≡ ways_at + 8 * a → EndsTaken w w' a linked
+  unfolding bit
   taking_end h a p q =
       record {
         outside = rw q at s.outside;
-        sound = λ c hc o. fresh_one _ _ (bit_lt w (links_at + 8 * a) c) (bit_lt linked 0 c) (sym (bits c hc) ∙ o);
-        complete = λ c hc o z. bits c hc ∙ rw (o, z) refl;
+        sound = λ c hc o. new_bit w linked (links_at + 8 * a) 0 c (sym (bits c hc) ∙ o);
+        complete = λ c hc o z. omega (arith, bits c hc);
       }
     where
-      bits : (c : ℕ) → c < 256
-          → bit w' (ways_at + 8 * a) c ≡ differ (max (bit w (links_at + 8 * a) c) (bit linked 0 c)) (bit linked 0 c)
+      bits : (c : ℕ) → c < 256 → bit w' (ways_at + 8 * a) c ≡ bit w (links_at + 8 * a) c - bit linked 0 c
       bits c hc =
           let e : 0 + c / 32 ≡ c / 32 = omega arith in
-          rw (p, q) at (bit_fresh w linked w' links 0 ways c (rw e (s.words (c / 32) (omega arith))))
+          let d : bit w' ways c ≡ bit w links c - bit linked 0 c = rw e (s.words (c / 32) (omega arith) (c % 32)) in
+          rw (p, q) at d
 
 -- ---- the ways from one episode, in words
 

@@ -10,11 +10,11 @@ use lib.ListN.{length, get_or, replicate, get_or-replicate}
 use Rattle.paths.specs.Graph.{Graph, Link, Way}
 use Rattle.paths.specs.Trimmed.{Implied}
 use Rattle.paths.proofs.Ways.{way_trans}
-use Rattle.bits.specs.Bits.{digit, bit, fresh, RowAdded}
+use Rattle.bits.specs.Bits.{digit, bit, RowAdded}
 use Rattle.bits.specs.Ones.{LowestTaken}
 use Rattle.bits.specs.Work.{links_at, ways_at, Matrix}
-use Rattle.bits.proofs.Digits.{digit_lt, Rest, rest_start, rest_here, rest_on, rest_none, rest_end}
-use Rattle.bits.proofs.Rows.{bit_lt, bit_digit, bits_zero, fresh_one, digit_fresh}
+use Rattle.bits.proofs.Digits.{Rest, rest_start, rest_here, rest_on, rest_none, rest_end}
+use Rattle.bits.proofs.Rows.{bit_lt, bits_zero, new_word}
 use Rattle.trimming.specs.Trimming.{Held, WaysAdded, HoldsImplied}
 
 -- ---- the rows of the bits of a word joined
@@ -114,24 +114,17 @@ noting_start w v from e =
     }
 
 -- the ways of one more word of links, less those that are implied, are joined
-module _ {w v v' : List ℕ} {from i : ℕ} (within : from + 8 ≤ ways_at) (hi : i < 8) (s : Noting w v from i)
-    (q : WaysAdded w (fresh (get_or w (from + i) 0) (get_or v i 0)) (32 * i) v v') where
-  link_digit : (j : ℕ) → j < 32 → digit (get_or w (from + i) 0) j ≡ bit w from (32 * i + j)
-  link_digit j h = sym (bit_digit w from i j h)
-
-  old_digit : (j : ℕ) → j < 32 → digit (get_or v i 0) j ≡ bit v 0 (32 * i + j)
-  old_digit j h = let e : 0 + i ≡ i = omega arith in sym (bit_digit v 0 i j h ∙ rw e)
-
+module _ {w v v' : List ℕ} {from i x : ℕ} (within : from + 8 ≤ ways_at) (hi : i < 8) (s : Noting w v from i)
+    (new : (j : ℕ) → digit x j ≡ digit (get_or w (from + i) 0) j - digit (get_or v i 0) j) (q : WaysAdded w x (32 * i) v v') where
   -- a digit is one where there is a link that is not implied
-  fresh_link : (j : ℕ) → j < 32 → digit (fresh (get_or w (from + i) 0) (get_or v i 0)) j ≡ 1 → bit w from (32 * i + j) ≡ 1
-  fresh_link j h o =
-      let (l, n) = fresh_one _ _ (digit_lt _ j) (digit_lt _ j) (sym (digit_fresh _ _ j) ∙ o) in
-      sym (link_digit j h) ∙ l
+  new_digit : (j : ℕ) → j < 32 → digit x j ≡ bit w from (32 * i + j) - bit v 0 (32 * i + j)
+  new_digit = new_word w v from 0 i x (let e : 0 + i ≡ i = omega arith in rw e new)
 
-  link_fresh : (j : ℕ) → j < 32 → bit w from (32 * i + j) ≡ 1 → bit v 0 (32 * i + j) ≡ 0
-      → digit (fresh (get_or w (from + i) 0) (get_or v i 0)) j ≡ 1
-  link_fresh j h l n =
-      digit_fresh (get_or w (from + i) 0) (get_or v i 0) j ∙ rw (link_digit j h, old_digit j h, l, n) refl
+  fresh_link : (j : ℕ) → j < 32 → digit x j ≡ 1 → bit w from (32 * i + j) ≡ 1
+  fresh_link j h o = omega (arith, new_digit j h, bit_lt w from (32 * i + j))
+
+  link_fresh : (j : ℕ) → j < 32 → bit w from (32 * i + j) ≡ 1 → bit v 0 (32 * i + j) ≡ 0 → digit x j ≡ 1
+  link_fresh j h l n = omega (arith, new_digit j h)
 
   row_on : (a : ℕ) → from ≡ links_at + 8 * a → (g : Graph) (n : ℕ) → Held g n w → Row g v' a (32 * (i + 1))
   row_on a p g n held =

@@ -2,10 +2,9 @@
 use mathlib.Core.Path.{◌≡◌, refl, ◌∙◌}
 use mathlib.Core.Bool.{Bool, true, ◌&&◌}
 use mathlib.Core.List.{List, [], ◌∷◌}
-use Prim.Native.Nat.{ℕ, zero, suc, ◌+◌, ◌-◌, ◌*◌, ◌≤◌, ◌<◌, max}
+use Prim.Native.Nat.{ℕ, zero, suc, ◌+◌, ◌-◌, ◌*◌, ◌≤◌, ◌<◌}
 use native.Mathlib.Decide.{ℕ_discrete}
 use native.Mathlib.Omega.{arith}
-use lib.Bits.{differ}
 use lib.Dec.{eqb}
 use lib.ListN.{length, get_or, set, length-append}
 use borrow.Author.Tests.{eqb-true, eq-eqb, ne_eqb}
@@ -19,11 +18,11 @@ use Rattle.paths.proofs.Passing.{passing_more, passing_le, passing_below, passin
 use Rattle.paths.proofs.Trimming.{stays_direct, direct_stays, trimmed_ends}
 use Rattle.logs.specs.Words.{word}
 use Rattle.logs.proofs.Words.{to_unpaused_lem}
-use Rattle.bits.specs.Bits.{digit, bit, fresh}
+use Rattle.bits.specs.Bits.{digit, bit}
 use Rattle.bits.specs.Ones.{LowestTaken}
 use Rattle.bits.specs.Work.{links_at}
-use Rattle.bits.proofs.Digits.{digit_lt, Rest, rest_here, rest_least, rest_none, rest_end}
-use Rattle.bits.proofs.Rows.{bit_lt, bit_digit, digit_fresh}
+use Rattle.bits.proofs.Digits.{Rest, rest_here, rest_least, rest_none, rest_end}
+use Rattle.bits.proofs.Rows.{bit_lt, new_word}
 use Rattle.writing.proofs.Listing.{Listing, listing_more, listing_skip}
 use Rattle.copying.specs.FairCopy.{linked_to, group}
 use Rattle.copying.proofs.Linked.{length_group, linked_to_mem, mem_linked_to}
@@ -70,25 +69,23 @@ module _ (first : ℕ) {test : ℕ → Bool} {o o' : List ℕ} {x rest k count :
 
 -- ---- the words of a row
 
--- what is fresh in one bit over another, as the test has it
-fresh_test : (x y : ℕ) → x < 2 → y < 2 → eqb x 1 && eqb y 0 ≡ eqb (differ (max x y) y) 1
-fresh_test zero zero h k = refl
-fresh_test zero (suc zero) h k = refl
-fresh_test (suc zero) zero h k = refl
-fresh_test (suc zero) (suc zero) h k = refl
-fresh_test zero (suc (suc y)) h k = absurd (omega arith)
-fresh_test (suc zero) (suc (suc y)) h k = absurd (omega arith)
-fresh_test (suc (suc x)) y h k = absurd (omega arith)
+-- what one bit has over another, as the test has it
+new_test : (x y : ℕ) → x < 2 → y < 2 → eqb x 1 && eqb y 0 ≡ eqb (x - y) 1
+new_test zero zero h k = refl
+new_test zero (suc zero) h k = refl
+new_test (suc zero) zero h k = refl
+new_test (suc zero) (suc zero) h k = refl
+new_test x (suc (suc y)) h k = absurd (omega arith)
+new_test (suc (suc x)) y h k = absurd (omega arith)
 
 -- the test of what is kept tells the digits of word `i`
-pub word_tells : (w : List ℕ) (a row : ℕ) (v : List ℕ) (i : ℕ) → row ≡ links_at + 8 * a
-    → TellsDigits (kept_at w a v) (fresh (get_or w (row + i) 0) (get_or v i 0)) (32 * i)
-word_tells w a row v i p j h =
+pub word_tells : (w : List ℕ) (a row : ℕ) (v : List ℕ) (i x : ℕ) → row ≡ links_at + 8 * a
+    → ((j : ℕ) → digit x j ≡ digit (get_or w (row + i) 0) j - digit (get_or v i 0) j) → TellsDigits (kept_at w a v) x (32 * i)
+word_tells w a row v i x p new j h =
     let e : 0 + i ≡ i = omega arith in
-    let l : bit w (links_at + 8 * a) (32 * i + j) ≡ digit (get_or w (row + i) 0) j = rw p (bit_digit w (links_at + 8 * a) i j h) in
-    let o : bit v 0 (32 * i + j) ≡ digit (get_or v i 0) j = bit_digit v 0 i j h ∙ rw e in
-    rw (l, o, digit_fresh (get_or w (row + i) 0) (get_or v i 0) j)
-    (fresh_test (digit (get_or w (row + i) 0) j) (digit (get_or v i 0) j) (digit_lt _ j) (digit_lt _ j))
+    let c = 32 * i + j in
+    rw (new_word w v (links_at + 8 * a) 0 i x (rw e (rw p at new)) j h)
+    (new_test (bit w (links_at + 8 * a) c) (bit v 0 c) (bit_lt w (links_at + 8 * a) c) (bit_lt v 0 c))
 
 -- a group has a word for each of its links
 pub group_holds : (a : ℕ) (pause : ℕ → ℕ) (bs : List ℕ) (k : ℕ) → length (group a pause bs) < k → length bs < k

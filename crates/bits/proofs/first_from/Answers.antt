@@ -5,8 +5,8 @@ use Rattle.bits.proofs.first_from.Goals as goal
 
 pub returns-then-ones-ne0-clause-first : goal.returns-then-ones-ne0-clause-first
 returns-then-ones-ne0-clause-first g c =
-    λ f of.
-    none_then_first f c.args.from c.loop-at.at c.word_of.result (c.loop-at.invariant f of) (omega arith) (omega arith)
+    λ bits of.
+    none_then_first bits c.args.from c.loop-at.at c.word_of.result (c.loop-at.invariant bits of) (omega arith) (omega arith)
     (of (c.loop-at.at / 32) c.word_of.result (omega arith) c.word_of.ensures) (omega arith)
 
 pub returns-then-ones-ne0-clause-below : goal.returns-then-ones-ne0-clause-below
@@ -14,6 +14,6 @@ returns-then-ones-ne0-clause-below g c = first_below c.loop-at.at c.word_of.resu
 
 pub loop-at-preserved : goal.loop-at-preserved
 loop-at-preserved g c =
-    λ f of.
-    none_then_none f c.args.from c.loop-at.at c.word_of.result (c.loop-at.invariant f of) (omega arith) (omega arith)
+    λ bits of.
+    none_then_none bits c.args.from c.loop-at.at c.word_of.result (c.loop-at.invariant bits of) (omega arith) (omega arith)
     (of (c.loop-at.at / 32) c.word_of.result (omega arith) c.word_of.ensures) (omega arith)

@@ -6,7 +6,7 @@ pub loop-i-init : goal.loop-i-init
 loop-i-init c = noting_start c.args.w.now c.args.implied.now c.args.row c.requires.2
 
 pub loop-i-preserved : goal.loop-i-preserved
-loop-i-preserved c = noting_on c.requires.1 (omega arith) c.loop-i.invariant (rw c.without.ensures at c.join_ways.ensures)
+loop-i-preserved c = noting_on c.requires.1 (omega arith) c.loop-i.invariant c.without.ensures c.join_ways.ensures
 
 pub returns : goal.returns
 returns c = noting_end (omega arith) c.loop-i.invariant

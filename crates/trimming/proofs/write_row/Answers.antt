@@ -5,7 +5,7 @@ use lib.ListN.{length}
 use Rattle.writing.proofs.Listing.{Listing, listing_none}
 use Rattle.copying.proofs.Groups.{group_links_lem, group_no_links}
 use Rattle.trimming.specs.TrimmedCopy.{no_pause}
-use Rattle.trimming.specs.Trimming.{kept_at, kept_to, to_unpaused, TellsDigits}
+use Rattle.trimming.specs.Trimming.{kept_at, kept_to, to_unpaused}
 use Rattle.trimming.proofs.Rows.{word_tells, group_holds}
 use Rattle.trimming.proofs.write_row.Goals as goal
 
@@ -15,8 +15,7 @@ loop-i-init c = let a = c.args in listing_none (kept_at a.w.now a.a a.implied.no
 pub write_word-links-requires : goal.write_word-links-requires
 write_word-links-requires c =
     let a = c.args in
-    let tells : TellsDigits (kept_at a.w.now a.a a.implied.now) c.without.result (32 * c.loop-i.i) =
-    rw c.without.ensures (word_tells a.w.now a.a a.row a.implied.now c.loop-i.i c.requires.2) in
+    let tells = word_tells a.w.now a.a a.row a.implied.now c.loop-i.i _ c.requires.2 c.without.ensures in
     let room = group_holds a.a (no_pause a.a) (kept_to a.w.now a.a a.implied.now) (length a.out.now) c.requires.3 in
     ((kept_at a.w.now a.a a.implied.now, a.out.now, tells, c.loop-i.invariant, room), omega arith)
 
@@ -24,8 +23,7 @@ pub loop-i-preserved : goal.loop-i-preserved
 loop-i-preserved c =
     let a = c.args in
     let test = kept_at a.w.now a.a a.implied.now in
-    let tells : TellsDigits (kept_at a.w.now a.a a.implied.now) c.without.result (32 * c.loop-i.i) =
-    rw c.without.ensures (word_tells a.w.now a.a a.row a.implied.now c.loop-i.i c.requires.2) in
+    let tells = word_tells a.w.now a.a a.row a.implied.now c.loop-i.i _ c.requires.2 c.without.ensures in
     let room = group_holds a.a (no_pause a.a) (kept_to a.w.now a.a a.implied.now) (length a.out.now) c.requires.3 in
     let next : 32 * c.loop-i.i + 32 ≡ 32 * (c.loop-i.i + 1) = omega arith in
     let written = c.write_word-links in
