@@ -34,6 +34,13 @@ pub fn find_thread(report: &[u32], i: usize) -> Result<Stretch, Refusal>
     Ok(Stretch { start, end })
 }
 
+// The number with which `find_thread` refuses thread `i`, or 0 where it finds it.
+pub fn thread_number(report: &[u32], i: usize) -> u32
+    ensures { ThreadNumber report.now i result }
+{
+    find_thread(report, i).map_or_else(|refusal| refusal.number(), |_| 0)
+}
+
 // The stretch of thread `i`, empty where `find_thread` refuses.
 pub fn thread_stretch(report: &[u32], i: usize) -> Stretch
     ensures { ThreadStretch report.now i result.start result.end }
