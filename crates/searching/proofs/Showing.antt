@@ -1,11 +1,12 @@
 -- What an item of the queue shows: from one new item to the next, up to one with none before it or to the last.
 use Rattle.std.proofs.lemmas.Grind.{common_steps}
-use mathlib.Core.Path.{◌≡◌, ◌∙◌}
+use Rattle.std.specs.Prelude.{Option, Some}
+use mathlib.Core.Path.{◌≡◌, sym, ◌∙◌}
 use mathlib.Core.List.{List}
 use Prim.Native.Nat.{ℕ, ◌+◌, ◌*◌, ◌≤◌, ◌<◌}
 use native.Mathlib.Omega.{arith}
 use lib.ListN.{length}
-use Rattle.bits.specs.Bits.{NextNew}
+use Rattle.bits.specs.Bits.{NextNew, place_or_end}
 use Rattle.bits.specs.Work.{next_at, via_at, seen_at, dead_at, Outside}
 use Rattle.searching.specs.Items.{Tables, SameChains, Matching, Searching, Saw, Flipped}
 use Rattle.searching.specs.State.{tables, deads, Pairs, Sized, SawIn, ShownIn}
@@ -42,8 +43,10 @@ module _ {w w' : List ℕ} {base m lo hi : ℕ} (s : Sized w base m) (le : next_
 
 -- ---- the loop of `show`
 
--- the item at `head` of the queue has shown what it has below `from`; the words were `w₀`
-pub record Showing (w₀ w : List ℕ) (base m head row end from : ℕ) : Type 0 where
+-- The item at `head` has shown what it has below `from`, and `next` is the first from there on that it has and that was not seen; the words
+-- were `w₀`.
+pub record Showing (w₀ w : List ℕ) (base m head row end : ℕ) (next : Option ℕ) : Type 0 where
+  pub from : ℕ
   pub sized : Sized w base m
   pub outside : Outside via_at dead_at w₀ w
   pub matching : Matching m (tables w)
@@ -51,24 +54,21 @@ pub record Showing (w₀ w : List ℕ) (base m head row end from : ℕ) : Type 0
   pub inside : head < end
   pub source : (tables w).queue 0 ≡ (tables w₀).queue 0
   pub row_is : row ≡ base + 8 * (tables w).queue head
-  pub from_le : from ≤ 256
+  pub first : NextNew w row seen_at from (place_or_end next)
 
--- `r` is the first from `from` on that the item at `head` has and that was not seen
-module _
-    (w₀ w : List ℕ)
-    (base m head row end from r : ℕ)
-    (z : Sized w₀ base m)
-    (s : Showing w₀ w base m head row end from)
-    (n : NextNew w row seen_at from r) where
+module _ {w₀ w : List ℕ} {base m head row end : ℕ} {next : Option ℕ} (s : Showing w₀ w base m head row end next) where
+  z : Sized w₀ base m
+  z = sized_kept (sym s.outside.same_length) s.sized
+
   low : (tables w).queue head < m
   low = s.searching.queued head s.inside
 
-  -- what it has before that was seen
-  gap : (c : ℕ) → from ≤ c → c < r → c < m → Pairs base w₀ ((tables w).queue head) c → (tables w).seen c ≡ 1
-  gap c lo hi cl q = n.passed c lo hi (rw s.row_is (forth z (omega arith) s.outside ((tables w).queue head) c low cl q))
+  -- what it has before `next` was seen
+  gap : (c : ℕ) → s.from ≤ c → c < place_or_end next → c < m → Pairs base w₀ ((tables w).queue head) c → (tables w).seen c ≡ 1
+  gap c lo hi cl q = s.first.passed c lo hi (rw s.row_is (forth z (omega arith) s.outside ((tables w).queue head) c low cl q))
 
-  -- there is none
-  pub showing_end : m ≤ r → ShownIn w₀ w base m head m end
+  -- it has shown all
+  pub showing_end : m ≤ place_or_end next → ShownIn w₀ w base m head m end
   showing_end le =
       record {
         outside = s.outside;
@@ -78,15 +78,18 @@ module _
         found = λ l. absurd (omega arith);
       }
 
-  -- `r` is seen; the words are now `w'`
-  module _ (w' : List ℕ) (rl : r < m) (i : SawIn w w' head r end) where
-    saw : Saw m (tables w) (tables w') head r end
+  -- `b` is next, and is seen; the words are now `w'`
+  module _ {w' : List ℕ} {b : ℕ} (is : next ≡ Some b) (bl : b < m) (i : SawIn w w' head b end) where
+    saw : Saw m (tables w) (tables w') head b end
     saw = saw_fewer (omega (arith, s.sized.items)) i.saw
 
-    new : Pairs base w₀ ((tables w).queue head) r × ((tables w).seen r ≡ 0)
+    place : place_or_end next ≡ b
+    place = cc
+
+    new : Pairs base w₀ ((tables w).queue head) b × ((tables w).seen b ≡ 0)
     new =
-        let (p, q) = n.new (omega (arith, z.items)) in
-        (back z (omega arith) s.outside ((tables w).queue head) r low rl (rw s.row_is at p), q)
+        let (p, q) = (rw place at s.first).new (omega (arith, z.items)) in
+        (back z (omega arith) s.outside ((tables w).queue head) b low bl (rw s.row_is at p), q)
 
     outside' : Outside via_at dead_at w₀ w'
     outside' = outside_then s.outside i.outside
@@ -94,24 +97,26 @@ module _
     source' : (tables w').queue 0 ≡ (tables w₀).queue 0
     source' = saw.queue_same 0 (omega (arith, s.inside)) ∙ s.source
 
-    -- with an item before it
-    pub showing_more : 0 < (tables w').prev r → Showing w₀ w' base m head row (end + 1) (r + 1)
-    showing_more pos =
+    -- with an item before it; `next'` is the next one
+    pub showing_more : {next' : Option ℕ} → 0 < (tables w').prev b → NextNew w' row seen_at (b + 1) (place_or_end next')
+        → Showing w₀ w' base m head row (end + 1) next'
+    showing_more pos n =
         record {
+          from = b + 1;
           sized = sized_kept outside'.same_length z;
           outside = outside';
           matching = saw_matching s.matching saw;
           searching =
-              saw_searching s.matching s.searching saw s.inside rl new.1 (omega (arith, saw.prev_same r rl)) new.0
-              (λ c lo hi q. gap c lo hi (omega arith) q);
+              saw_searching s.matching s.searching saw s.inside bl new.1 (omega (arith, saw.prev_same b bl)) new.0
+              (λ c lo hi q. gap c lo (omega (arith, place)) (omega arith) q);
           inside = omega (arith, s.inside);
           source = source';
           row_is = rw (saw.queue_same head s.inside) s.row_is;
-          from_le = omega (arith, z.items);
+          first = n;
         }
 
     -- with none
-    pub showing_found : (tables w').prev r ≡ 0 → ShownIn w₀ w' base m head r end
+    pub showing_found : (tables w').prev b ≡ 0 → ShownIn w₀ w' base m head b end
     showing_found first =
         record {
           outside = outside';
@@ -120,5 +125,5 @@ module _
           done = λ e. absurd (omega arith);
           found =
               λ l.
-              found s.matching s.searching saw s.inside rl new.1 (omega (arith, saw.prev_same r rl)) new.0;
+              found s.matching s.searching saw s.inside bl new.1 (omega (arith, saw.prev_same b bl)) new.0;
         }

@@ -73,8 +73,8 @@ fn show(w: &mut [u32], base: usize, m: usize, head: usize, tail: usize) -> Shown
 {
     let row = base + 8 * w[QUEUE + head] as usize;
     let mut end = tail;
-    let mut from = 0;
-    while let Some(b) = bits::next_new(w, row, SEEN, from)
+    let mut next = bits::next_new(w, row, SEEN, 0);
+    while let Some(b) = next
         && b < m
     {
         see(w, head, b, end);
@@ -82,7 +82,7 @@ fn show(w: &mut [u32], base: usize, m: usize, head: usize, tail: usize) -> Shown
             return Shown::Found(b);
         }
         end += 1;
-        from = b + 1;
+        next = bits::next_new(w, row, SEEN, b + 1);
     }
     Shown::Queued(end)
 }

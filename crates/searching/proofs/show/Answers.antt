@@ -5,37 +5,23 @@ use Rattle.searching.proofs.Showing.{showing_more, showing_found, showing_end}
 use Rattle.searching.proofs.show.Goals as goal
 
 pub returns-then-is_none : goal.returns-then-is_none
-returns-then-is_none c =
-    let a = c.args in
-    let at = c.loop-b in
-    let b = c.in-Some in (
-      at.end,
-      c.if-b-m.true,
-      showing_found a.w.now at.w a.base a.m a.head _ at.end at.from b.b c.requires.0 at.invariant b.ensures.first c.see.new.w c.if-b-m.true
-          c.see.ensures
-          (search (rules, figure_none)),
-    )
+returns-then-is_none c = (
+  c.loop-next.end,
+  c.if-b-m.true,
+  showing_found c.loop-next.invariant c.in-Some.is c.if-b-m.true c.see.ensures (search (rules, figure_none)),
+)
 
-pub loop-b-preserved : goal.loop-b-preserved
-loop-b-preserved c =
-    let a = c.args in
-    let at = c.loop-b in
-    let b = c.in-Some in
-    showing_more a.w.now at.w a.base a.m a.head _ at.end at.from b.b c.requires.0 at.invariant b.ensures.first c.see.new.w c.if-b-m.true
-    c.see.ensures
-    (search (rules, figure_some))
+pub loop-next-preserved : goal.loop-next-preserved
+loop-next-preserved c =
+    showing_more c.loop-next.invariant c.in-Some.is c.if-b-m.true c.see.ensures (search (rules, figure_some))
+    c.next_new-next-in-loop-next.ensures.first
 
-pub returns-in-loop-b : goal.returns-in-loop-b
-returns-in-loop-b c =
-    let a = c.args in
-    let at = c.loop-b in
-    let none : place_or_end c.next_new.result ≡ 256 = cc in
-    showing_end a.w.now at.w a.base a.m a.head _ at.end at.from (place_or_end c.next_new.result) c.requires.0 at.invariant c.next_new.ensures.first
-    (omega (arith, c.requires.0.items))
+pub returns-in-loop-next : goal.returns-in-loop-next
+returns-in-loop-next c =
+    let none : place_or_end c.loop-next.next ≡ 256 = cc in
+    showing_end c.loop-next.invariant (omega (arith, c.requires.0.items))
 
 pub returns-else-b-m : goal.returns-else-b-m
 returns-else-b-m c =
-    let a = c.args in
-    let at = c.loop-b in
-    let b = c.in-Some in
-    showing_end a.w.now at.w a.base a.m a.head _ at.end at.from b.b c.requires.0 at.invariant b.ensures.first c.if-b-m.false
+    let place : place_or_end c.loop-next.next ≡ c.in-Some.b = cc in
+    showing_end c.loop-next.invariant (omega (arith, c.if-b-m.false))
