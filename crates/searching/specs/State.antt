@@ -2,8 +2,8 @@
 use Rattle.std.specs.Prelude.{◌≡◌, Option, Some, None, List, ℕ, ◌+◌, ◌-◌, ◌*◌, ◌≤◌, ◌<◌, length, get_or}
 use Rattle.bits.specs.Bits.{bit}
 use Rattle.bits.specs.Work.{next_at, prev_at, via_at, queue_at, seen_at, dead_at, used_words, Outside, none_at, matrix_words}
-use Rattle.searching.specs.declared.Shown.{Shown}
-use Rattle.searching.specs.declared.Shown.TheVariants.{Found, Queued}
+use Rattle.std.specs.declared.ops.ControlFlow.{ControlFlow}
+use Rattle.std.specs.declared.ops.ControlFlow.TheVariants.{Continue, Break}
 use Rattle.searching.specs.Items.{Tables, Matching, Dead, Searching, Saw, Trail, Flipping, Flipped}
 
 -- the tables in the work words
@@ -67,9 +67,9 @@ pub record ShownIn (w w' : List ℕ) (base m head item tail : ℕ) : Type 0 wher
       → Trail m (Pairs base w) (deads w) (tables w') tail × Flipping m (Pairs base w) (deads w) (tables w') (tables w') tail item
 
 -- what `show` gives: such an item, or the new end of the queue
-abbrev pub ShownAs : List ℕ → List ℕ → ℕ → ℕ → ℕ → Shown → Type 0
-ShownAs w w' base m head (Found item) = (tail : ℕ) × (item < m) × ShownIn w w' base m head item tail
-ShownAs w w' base m head (Queued tail) = ShownIn w w' base m head m tail
+abbrev pub ShownAs : List ℕ → List ℕ → ℕ → ℕ → ℕ → ControlFlow ℕ ℕ → Type 0
+ShownAs w w' base m head (Break item) = (tail : ℕ) × (item < m) × ShownIn w w' base m head item tail
+ShownAs w w' base m head (Continue tail) = ShownIn w w' base m head m tail
 
 -- What a search from `a` finds: an item with none before it and the way back from it, or, where `item` is `m`, nothing.
 pub record SearchedIn (w w' : List ℕ) (base m a item : ℕ) : Type 0 where

@@ -6,6 +6,7 @@ ghost use Rattle.bits.specs.Work.{used_words};
 ghost use Rattle.searching.specs.State.{tables, figure, ForgottenIn, PutIn, SawIn, ShowAsked, ShownAs, SearchedIn, FlipAsked, FlippedIn, Extendable};
 
 use bits::{NEXT, NONE, PREV, QUEUE, SEEN, VIA};
+use std::ops::ControlFlow;
 
 // Lets nothing be seen and nothing be dead.
 pub fn forget(w: &mut [u32])
@@ -60,14 +61,9 @@ fn see(w: &mut [u32], head: usize, b: usize, tail: usize)
     }
 }
 
-// What an item of the queue leads to: an item with none before it, or only more of the queue, up to this end.
-enum Shown {
-    Found(usize),
-    Queued(usize),
-}
-
-// Sees what the item at `head` of the queue has in the matrix at `base`, up to an item with none before it.
-fn show(w: &mut [u32], base: usize, m: usize, head: usize, tail: usize) -> Shown
+// Sees what the item at `head` of the queue has in the matrix at `base`, up to an item with none before it, and breaks with that; where there
+// is no such item, it continues with the new end of the queue.
+fn show(w: &mut [u32], base: usize, m: usize, head: usize, tail: usize) -> ControlFlow<usize, usize>
     requires { ShowAsked w.old base m head tail }
     ensures { ShownAs w.old w.new base m head result }
 {
@@ -79,12 +75,12 @@ fn show(w: &mut [u32], base: usize, m: usize, head: usize, tail: usize) -> Shown
     {
         see(w, head, b, end);
         if previous_of(w, b).is_none() {
-            return Shown::Found(b);
+            return ControlFlow::Break(b);
         }
         end += 1;
         next = bits::next_new(w, row, SEEN, b + 1);
     }
-    Shown::Queued(end)
+    ControlFlow::Continue(end)
 }
 
 // Searches for an item with none before it, from `a`, which ends a chain.
@@ -98,8 +94,8 @@ pub fn search(w: &mut [u32], base: usize, m: usize, a: usize) -> Option<usize>
     let mut head = 0;
     while head < tail {
         match show(w, base, m, head, tail) {
-            Shown::Found(item) => return Some(item),
-            Shown::Queued(end) => tail = end,
+            ControlFlow::Break(item) => return Some(item),
+            ControlFlow::Continue(end) => tail = end,
         }
         head += 1;
     }
@@ -111,7 +107,7 @@ pub fn flip(w: &mut [u32], b: usize) -> Option<usize>
     requires { FlipAsked w.old b }
     ensures { FlippedIn w.old w.new b (figure result) }
 {
-    let place = w[VIA + b] as usize - 1;
+    let place = item_at(w, VIA + b).unwrap();
     let a = w[QUEUE + place] as usize;
     let old = next_of(w, a);
     put_behind(w, a, b);
