@@ -2,10 +2,9 @@
 use mathlib.Core.Path.{◌≡◌, refl}
 use mathlib.Core.Logic.{◌⊎◌, inl, inr}
 use mathlib.Core.List.{List}
-use Prim.Native.Nat.{ℕ, ◌+◌, ◌≤◌, ◌<◌}
+use Prim.Native.Nat.{ℕ, ◌+◌}
 use native.Mathlib.Omega.{arith}
-use lib.ListN.{length}
-use Rattle.bits.specs.Work.{links_at, next_at, none_at, used_words, matrix_words, Matrix, Outside}
+use Rattle.bits.specs.Work.{links_at, next_at, none_at, Matrix, Outside}
 use Rattle.bits.proofs.Frames.{outside_then, outside_wider}
 use Rattle.paths.specs.Graph.{Graph, EndsBelow, Link, Way}
 use Rattle.searching.specs.Items.{SameChains, Dead, Shrunk}
@@ -18,23 +17,20 @@ use Rattle.searching.proofs.Relations.{Within, chains_none, links_then, shrunk_w
 use Rattle.searching.proofs.Showing.{same_chains, forth, back}
 
 -- `e` are the words at first, `w₁` those with each item but `v` behind itself, and in `w₂` besides nothing is seen or dead
-module _ (e w₁ w₂ : List ℕ) (m v : ℕ) (long : used_words ≤ length e) (items : m < 256) (s : SelvesIn e w₁ m v) (n : ForgottenIn w₁ w₂) where
+module _ (e w₁ w₂ : List ℕ) (m v : ℕ) (z : Sized e links_at m) (s : SelvesIn e w₁ m v) (n : ForgottenIn w₁ w₂) where
   selves_outside : Outside next_at none_at e w₂
   selves_outside = outside_then (outside_wider (omega arith) (omega arith) s.outside) (outside_wider (omega arith) (omega arith) n.outside)
 
-  sized : (base : ℕ) → base + matrix_words ≤ next_at → Sized e base m
-  sized base fits = record { long = long; matrix = fits; items = items }
-
   links : SameChains m (tables w₁) (tables w₂)
-  links = same_chains (omega arith) n.outside m items
+  links = same_chains (omega arith) n.outside m z.items
 
   -- the matrix there is that of the links
   module _ (g : Graph) (k : Matrix links_at e (Link g)) where
     sound : Within m (Pairs links_at w₂) (Link g)
-    sound a b al bl p = k.sound a b (omega arith) (omega arith) (back (sized links_at (omega arith)) (omega arith) selves_outside a b al bl p)
+    sound a b al bl p = k.sound a b (omega (arith, z.items)) (omega (arith, z.items)) (back z (omega arith) selves_outside a b al bl p)
 
     complete : Within m (Link g) (Pairs links_at w₂)
-    complete a b al bl l = forth (sized links_at (omega arith)) (omega arith) selves_outside a b al bl (k.complete a b (omega arith) (omega arith) l)
+    complete a b al bl l = forth z (omega arith) selves_outside a b al bl (k.complete a b (omega (arith, z.items)) (omega (arith, z.items)) l)
 
   pub looped : (w : List ℕ) → ExtendedIn w₂ w links_at m v → LoopedIn e w m v
   looped w h =

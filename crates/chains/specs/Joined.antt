@@ -1,10 +1,14 @@
 -- What the functions that join chains leave in the work words.
-use Rattle.std.specs.Prelude.{◌≡◌, ◌⊎◌, List, ℕ, ◌+◌, ◌<◌}
+use Rattle.std.specs.Prelude.{◌≡◌, ◌⊎◌, List, ℕ, ◌+◌, ◌≤◌, ◌<◌, get_or}
 use Rattle.paths.specs.Graph.{Graph, EndsBelow, Link, Way}
 use Rattle.bits.specs.Work.{links_at, next_at, via_at, Matrix, Outside, none_at}
 use Rattle.searching.specs.Items.{Tables, SameChains, Matching, Pairing, Dead, Exhausted, Shrunk}
 use Rattle.searching.specs.State.{tables, deads, Pairs, Sized}
 use Rattle.chains.specs.Cycles.{Selves}
+
+-- no item stands behind another
+abbrev pub NoneBehind : List ℕ → Type 0
+NoneBehind w = (i : ℕ) → next_at ≤ i → i < via_at → get_or w i 0 ≡ 0
 
 -- `a` has been searched from too: there is one chain fewer, or the chains are the same
 pub record ExtendedIn (w w' : List ℕ) (base m a : ℕ) : Type 0 where

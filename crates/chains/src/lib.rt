@@ -2,11 +2,11 @@
 // What a search has seen in vain is dead: no later search looks at it.
 #![tactic(auto)]
 
-ghost use Rattle.std.specs.Prelude.{◌≡◌, ℕ, ◌+◌, ◌<◌, ◌≤◌, length, get_or};
-ghost use Rattle.bits.specs.Work.{next_at, via_at, used_words};
+ghost use Rattle.std.specs.Prelude.{◌+◌, ◌<◌};
+ghost use Rattle.bits.specs.Work.{links_at};
 ghost use Rattle.searching.specs.Items.{Pairing};
 ghost use Rattle.searching.specs.State.{tables, Pairs, Sized, Extendable};
-ghost use Rattle.chains.specs.Joined.{PairedIn, ExtendedIn, Chained, JoinedIn, SelvesIn, LoopedIn};
+ghost use Rattle.chains.specs.Joined.{PairedIn, ExtendedIn, Chained, JoinedIn, NoneBehind, SelvesIn, LoopedIn};
 
 use bits::{DEAD, LINKS, SEEN};
 
@@ -26,7 +26,7 @@ fn pair(w: &mut [u32], base: usize, m: usize, a: usize)
 
 // From single items to pairs, as they come.
 fn first_pairs(w: &mut [u32], base: usize, m: usize)
-    requires { Sized w.old base m × ((i : ℕ) → next_at ≤ i → i < via_at → get_or w.old i 0 ≡ 0) }
+    requires { Sized w.old base m × NoneBehind w.old }
     ensures { PairedIn w.old w.new base m m }
 {
     searching::forget(w);
@@ -68,7 +68,7 @@ fn extend_all(w: &mut [u32], base: usize, m: usize)
 
 // From single items to as few chains as can be.
 pub fn join(w: &mut [u32], base: usize, m: usize)
-    requires { Sized w.old base m × ((i : ℕ) → next_at ≤ i → i < via_at → get_or w.old i 0 ≡ 0) }
+    requires { Sized w.old base m × NoneBehind w.old }
     ensures { JoinedIn w.old w.new base m }
 {
     first_pairs(w, base, m);
@@ -77,7 +77,7 @@ pub fn join(w: &mut [u32], base: usize, m: usize)
 
 // Puts each item but `v` behind itself.
 fn behind_itself(w: &mut [u32], m: usize, v: usize)
-    requires { (used_words ≤ length w.old) × (m < 256) × (v < m) × ((i : ℕ) → next_at ≤ i → i < via_at → get_or w.old i 0 ≡ 0) }
+    requires { Sized w.old links_at m × (v < m) × NoneBehind w.old }
     ensures { SelvesIn w.old w.new m v }
 {
     for a in 0..m {
@@ -90,7 +90,7 @@ fn behind_itself(w: &mut [u32], m: usize, v: usize)
 // Finds a loop through `v`: a shortest walk of links from `v` to `v` is what an augmenting search shows where each other item is behind
 // itself.
 pub fn find_loop(w: &mut [u32], m: usize, v: usize)
-    requires { (used_words ≤ length w.old) × (m < 256) × (v < m) × ((i : ℕ) → next_at ≤ i → i < via_at → get_or w.old i 0 ≡ 0) }
+    requires { Sized w.old links_at m × (v < m) × NoneBehind w.old }
     ensures { LoopedIn w.old w.new m v }
 {
     behind_itself(w, m, v);

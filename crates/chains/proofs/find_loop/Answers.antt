@@ -7,5 +7,5 @@ returns c =
     let k = c.behind_itself in
     let n = c.forget in
     let h = c.extend in
-    looped c.args.w.now k.new.w n.new.w c.args.m c.args.v c.requires.0 c.requires.1 k.ensures n.ensures h.new.w
+    looped c.args.w.now k.new.w n.new.w c.args.m c.args.v c.requires.0 k.ensures n.ensures h.new.w
     h.ensures
