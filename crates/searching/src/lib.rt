@@ -107,7 +107,8 @@ pub fn flip(w: &mut [u32], b: usize) -> Option<usize>
     requires { FlipAsked w.old b }
     ensures { FlippedIn w.old w.new b (figure result) }
 {
-    let place = item_at(w, VIA + b).unwrap();
+    // The word is not 0, and `item_at` would ask that once more.
+    let place = w[VIA + b] as usize - 1;
     let a = w[QUEUE + place] as usize;
     let old = next_of(w, a);
     put_behind(w, a, b);
