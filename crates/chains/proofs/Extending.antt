@@ -37,7 +37,7 @@ pub record Going (w₁ w : List ℕ) (base m tail : ℕ) (item : Option ℕ) : T
   pub done : item ≡ None → Extended m (Pairs base w₁) (deads w₁) (tables w₁) (tables w) ((tables w₁).queue 0)
 
 -- one step back
-module _ (w₁ w : List ℕ) (base m tail : ℕ) (item : Option ℕ) (b : ℕ) (s : Going w₁ w base m tail item) (e : item ≡ Some b) where
+module _ {w₁ w : List ℕ} {base m tail : ℕ} {item : Option ℕ} {b : ℕ} (s : Going w₁ w base m tail item) (e : item ≡ Some b) where
   f : Flipping m (Pairs base w₁) (deads w₁) (tables w₁) (tables w) tail b
   f = s.on b e
 
@@ -59,7 +59,7 @@ module _ (w₁ w : List ℕ) (base m tail : ℕ) (item : Option ℕ) (b : ℕ) (
       let ql = s.trail.queued p pl in
       (s.long, omega arith, omega (arith, via), omega (arith, via), omega (arith, place))
 
-  module _ (w' : List ℕ) (item' : Option ℕ) (k : FlippedIn w w' b (figure item')) where
+  module _ {w' : List ℕ} (item' : Option ℕ) (k : FlippedIn w w' b (figure item')) where
     flipped : Flipped m (tables w) (tables w') ((tables w₁).queue p) b
     flipped = rw place at (flipped_fewer {n = m} (omega (arith, s.items)) k.put.flipped)
 
@@ -93,12 +93,12 @@ module _ (w₁ w : List ℕ) (base m tail : ℕ) (item : Option ℕ) (b : ℕ) (
             omega (arith, now)
 
 -- an item that ends no chain
-pub not_end : (e : List ℕ) (base m a : ℕ) → Extendable e base m a → 0 < (tables e).next a → ExtendedIn e e base m a
-not_end e base m a z h =
+pub not_end : {e : List ℕ} {base m a : ℕ} → Extendable e base m a → 0 < (tables e).next a → ExtendedIn e e base m a
+not_end {e} z h =
     record { outside = outside_none next_at none_at e; seen_dead = z.seen_dead; dead = dead_skip z.dead h; change = inl chains_none }
 
 -- `e` are the words before the search
-module _ (e w₁ : List ℕ) (base m a item : ℕ) (z : Extendable e base m a) (h : SearchedIn e w₁ base m a item) where
+module _ {e w₁ : List ℕ} {base m a item : ℕ} (z : Extendable e base m a) (h : SearchedIn e w₁ base m a item) where
   same_dead : (b : ℕ) → b < m → deads w₁ b ≡ deads e b
   same_dead b bl = dead_behind h.outside (omega arith) b
 
@@ -119,8 +119,8 @@ module _ (e w₁ : List ℕ) (base m a item : ℕ) (z : Extendable e base m a) (
       )
 
   -- one chain fewer; `w'` are the words after what is dead has been copied
-  pub going_end : (w w' : List ℕ) (tail : ℕ) (next : Option ℕ) → Going w₁ w base m tail next → next ≡ None → RowCopied w w' seen_at dead_at → ExtendedIn e w' base m a
-  going_end w w' tail next s q c =
+  pub going_end : {w w' : List ℕ} {tail : ℕ} {next : Option ℕ} → Going w₁ w base m tail next → next ≡ None → RowCopied w w' seen_at dead_at → ExtendedIn e w' base m a
+  going_end {w} {w'} s q c =
       record {
         outside =
             outside_then (outside_wider (omega arith) (omega arith) h.outside)
@@ -151,8 +151,8 @@ module _ (e w₁ : List ℕ) (base m a item : ℕ) (z : Extendable e base m a) (
           (same_chains (omega arith) h.outside m z.sized.items) same_dead z.dead
 
   -- nothing was found; `w` are the words after what is seen has been copied
-  pub in_vain : (w : List ℕ) → item ≡ m → RowCopied w₁ w dead_at seen_at → ExtendedIn e w base m a
-  in_vain w q c =
+  pub in_vain : {w : List ℕ} → item ≡ m → RowCopied w₁ w dead_at seen_at → ExtendedIn e w base m a
+  in_vain {w} q c =
       record {
         outside = outside_wider (omega arith) (omega arith) all;
         seen_dead = λ b bl. bit_before o seen_at b (omega arith) (omega (arith, z.sized.items)) ∙ sym (dead b bl);

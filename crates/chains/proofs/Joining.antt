@@ -15,7 +15,7 @@ use Rattle.searching.proofs.Searches.{matching_same}
 use Rattle.searching.proofs.Showing.{sized_kept, forth, back}
 
 -- after the first pairs
-module _ (w w' : List ℕ) (base m : ℕ) (z : Sized w base m) (p : PairedIn w w' base m m) where
+module _ {w w' : List ℕ} {base m : ℕ} (z : Sized w base m) (p : PairedIn w w' base m m) where
   pub chained_pairs : Chained w' base m
   chained_pairs =
       record {
@@ -25,8 +25,8 @@ module _ (w w' : List ℕ) (base m : ℕ) (z : Sized w base m) (p : PairedIn w w
       }
 
   -- seen from the words before them
-  pub joined_from : (w'' : List ℕ) → JoinedIn w' w'' base m → JoinedIn w w'' base m
-  joined_from w'' j =
+  pub joined_from : {w'' : List ℕ} → JoinedIn w' w'' base m → JoinedIn w w'' base m
+  joined_from j =
       record {
         outside = outside_then p.outside j.outside;
         matching = j.matching;
@@ -40,11 +40,11 @@ pub record Joining (w₀ w : List ℕ) (base m a : ℕ) : Type 0 where
   pub extendable : Extendable w base m a
   pub pairs : (x b : ℕ) → x < m → b < m → (tables w).next x ≡ b + 1 → Pairs base w₀ x b
 
-module _ (w₀ : List ℕ) (base m : ℕ) (z : Chained w₀ base m) where
-  module _ (w : List ℕ) (a : ℕ) (s : Joining w₀ w base m a) where
+module _ {w₀ : List ℕ} {base m : ℕ} (z : Chained w₀ base m) where
+  module _ {w : List ℕ} {a : ℕ} (s : Joining w₀ w base m a) where
     -- the search from `a`
-    pub joining_more : (w' : List ℕ) → a < m → ExtendedIn w w' base m a → Joining w₀ w' base m (a + 1)
-    joining_more w' al h =
+    pub joining_more : {w' : List ℕ} → ExtendedIn w w' base m a → Joining w₀ w' base m (a + 1)
+    joining_more h =
         record {
           outside = outside_then s.outside h.outside;
           extendable =

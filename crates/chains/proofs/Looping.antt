@@ -17,7 +17,7 @@ use Rattle.searching.proofs.Relations.{Within, chains_none, links_then, shrunk_w
 use Rattle.searching.proofs.Showing.{same_chains, forth, back}
 
 -- `e` are the words at first, `w₁` those with each item but `v` behind itself, and in `w₂` besides nothing is seen or dead
-module _ (e w₁ w₂ : List ℕ) (m v : ℕ) (z : Sized e links_at m) (s : SelvesIn e w₁ m v) (n : ForgottenIn w₁ w₂) where
+module _ {e w₁ w₂ : List ℕ} {m v : ℕ} (z : Sized e links_at m) (s : SelvesIn e w₁ m v) (n : ForgottenIn w₁ w₂) where
   selves_outside : Outside next_at none_at e w₂
   selves_outside = outside_then (outside_wider (omega arith) (omega arith) s.outside) (outside_wider (omega arith) (omega arith) n.outside)
 
@@ -32,8 +32,8 @@ module _ (e w₁ w₂ : List ℕ) (m v : ℕ) (z : Sized e links_at m) (s : Selv
     complete : Within m (Link g) (Pairs links_at w₂)
     complete a b al bl l = forth z (omega arith) selves_outside a b al bl (k.complete a b (omega (arith, z.items)) (omega (arith, z.items)) l)
 
-  pub looped : (w : List ℕ) → ExtendedIn w₂ w links_at m v → LoopedIn e w m v
-  looped w h =
+  pub looped : {w : List ℕ} → ExtendedIn w₂ w links_at m v → LoopedIn e w m v
+  looped {w} h =
       record {
         outside = outside_then selves_outside h.outside;
         shrunk = λ g ends i k way. (tables w₁, s.selves, go g ends i k way h.change);

@@ -22,11 +22,11 @@ module _ {m : ℕ} {R : ℕ → ℕ → Type 0} {t : Tables} {a : ℕ} (s : Pair
 
 -- ---- one item
 
-module _ (w : List ℕ) (base m a : ℕ) (s : Pairing m (Pairs base w) (tables w) a) where
+module _ {w : List ℕ} {base m a : ℕ} (s : Pairing m (Pairs base w) (tables w) a) where
   -- it gets `b`; `w₁` is `w` with the bit of `b` set
-  pub pair_one : (w₁ w₂ : List ℕ) (b : ℕ) → Sized w base m → a < m → b < m → NextNew w (base + 8 * a) seen_at 0 b → BitSet w w₁ seen_at b
+  pub pair_one : {w₁ w₂ : List ℕ} {b : ℕ} → Sized w base m → a < m → b < m → NextNew w (base + 8 * a) seen_at 0 b → BitSet w w₁ seen_at b
       → PutIn w₁ w₂ a b → PairedIn w w₂ base m (a + 1)
-  pair_one w₁ w₂ b z al bl n k p =
+  pair_one {w₁} {w₂} {b} z al bl n k p =
       record {
         outside = outside_then (outside_wider (omega arith) (omega arith) marked) (outside_wider (omega arith) (omega arith) p.outside);
         pairing = pairing_more s b al bl new.0 new.1 flipped (same b ∙ k.here) (λ c cl ne. same c ∙ k.others c ne);
@@ -52,11 +52,11 @@ module _ (w : List ℕ) (base m a : ℕ) (s : Pairing m (Pairs base w) (tables w
 
 -- ---- the pass; `e` are the words at first
 
-module _ (e w : List ℕ) (base m a : ℕ) (z : Sized e base m) (p : PairedIn e w base m a) where
+module _ {e w : List ℕ} {base m a : ℕ} (z : Sized e base m) (p : PairedIn e w base m a) where
   pub pair_asked : a < m → Sized w base m × Pairing m (Pairs base w) (tables w) a × (a < m)
   pair_asked al = (sized_kept p.outside.same_length z, pairing_within (forth z (omega arith) p.outside) p.pairing, al)
 
   -- the next item
-  pub paired_more : (w' : List ℕ) → PairedIn w w' base m (a + 1) → PairedIn e w' base m (a + 1)
-  paired_more w' q =
+  pub paired_more : {w' : List ℕ} → PairedIn w w' base m (a + 1) → PairedIn e w' base m (a + 1)
+  paired_more q =
       record { outside = outside_then p.outside q.outside; pairing = pairing_within (back z (omega arith) p.outside) q.pairing }

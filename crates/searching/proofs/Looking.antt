@@ -24,7 +24,7 @@ pub record Looking (e w : List ℕ) (base m a head tail : ℕ) : Type 0 where
   pub source : (tables w).queue 0 ≡ a
   pub some : 0 < tail
 
-module _ (e : List ℕ) (base m a : ℕ) (z : Extendable e base m a) where
+module _ {e : List ℕ} {base m a : ℕ} (z : Extendable e base m a) where
   -- `a` is put into the queue
   pub looking_start : a < m → (tables e).next a ≡ 0 → Looking e (set e queue_at a) base m a 0 1
   looking_start al ending =
@@ -53,7 +53,7 @@ module _ (e : List ℕ) (base m a : ℕ) (z : Extendable e base m a) where
       source : (tables (set e queue_at a)).queue 0 ≡ a
       source = get_or-set_same e queue_at a 0 (omega (arith, z.sized.long))
 
-  module _ (w : List ℕ) (head tail : ℕ) (s : Looking e w base m a head tail) where
+  module _ {w : List ℕ} {head tail : ℕ} (s : Looking e w base m a head tail) where
     -- the queue has ended
     pub looking_end : tail ≤ head → SearchedIn e w base m a m
     looking_end le =
@@ -76,8 +76,8 @@ module _ (e : List ℕ) (base m a : ℕ) (z : Extendable e base m a) where
         same = omega (arith, s.searching.head_le)
 
     -- an item with none before it
-    pub looking_found : (w' : List ℕ) (item tail' : ℕ) → ShownIn w w' base m head item tail' → item < m → SearchedIn e w' base m a item
-    looking_found w' item tail' h l =
+    pub looking_found : {w' : List ℕ} {item tail' : ℕ} → ShownIn w w' base m head item tail' → item < m → SearchedIn e w' base m a item
+    looking_found {w'} {item} {tail'} h l =
         record {
           outside = outside_then s.outside h.outside;
           source = h.source ∙ s.source;
@@ -100,8 +100,8 @@ module _ (e : List ℕ) (base m a : ℕ) (z : Extendable e base m a) where
         dead b bl = sym (dead_behind s.outside (omega arith) b)
 
     -- on to the next item of the queue
-    pub looking_more : (w' : List ℕ) (tail' : ℕ) → ShownIn w w' base m head m tail' → Looking e w' base m a (head + 1) tail'
-    looking_more w' tail' h =
+    pub looking_more : {w' : List ℕ} {tail' : ℕ} → ShownIn w w' base m head m tail' → Looking e w' base m a (head + 1) tail'
+    looking_more {w'} {tail'} h =
         record {
           sized = sized_kept h.outside.same_length s.sized;
           outside = outside_then s.outside h.outside;

@@ -8,8 +8,8 @@ use Rattle.bits.proofs.Rows.{bits_zero}
 use Rattle.bits.proofs.Frames.{Cleared}
 use Rattle.searching.specs.State.{ForgottenIn}
 
-pub forgotten : (w w' : List ℕ) → Cleared seen_at none_at w w' → ForgottenIn w w'
-forgotten w w' c =
+pub forgotten : {w w' : List ℕ} → Cleared seen_at none_at w w' → ForgottenIn w w'
+forgotten {w' = w'} c =
     record {
       outside = c.outside;
       none_seen = λ b h. bits_zero w' seen_at b (c.zeros (seen_at + b / 32) (omega arith) (omega arith));

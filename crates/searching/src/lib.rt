@@ -50,6 +50,7 @@ pub fn previous_of(w: &[u32], b: usize) -> Option<usize>
 }
 
 // Marks `b` as seen from the place `head`; the item before it, if there is one, goes into the queue at `tail`.
+#[tactic(auto, using(std::proofs::lemmas::Grind::common_steps, bits::proofs::Frames::bit_stored))]
 fn see(w: &mut [u32], head: usize, b: usize, tail: usize)
     requires { (used_words ≤ length w.old) × (head < 256) × (b < 256) × (tail < 256) }
     ensures { SawIn w.old w.new head b tail }

@@ -3,9 +3,4 @@ use Rattle.chains.proofs.Looping.{looped}
 use Rattle.chains.proofs.find_loop.Goals as goal
 
 pub returns : goal.returns
-returns c =
-    let k = c.behind_itself in
-    let n = c.forget in
-    let h = c.extend in
-    looped c.args.w.now k.new.w n.new.w c.args.m c.args.v c.requires.0 k.ensures n.ensures h.new.w
-    h.ensures
+returns c = looped c.requires.0 c.behind_itself.ensures c.forget.ensures c.extend.ensures

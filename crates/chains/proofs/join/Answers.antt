@@ -3,12 +3,7 @@ use Rattle.chains.proofs.Joining.{chained_pairs, joined_from}
 use Rattle.chains.proofs.join.Goals as goal
 
 pub extend_all-requires : goal.extend_all-requires
-extend_all-requires c =
-    let p = c.first_pairs in
-    chained_pairs c.args.w.now p.new.w c.args.base c.args.m c.requires.0 p.ensures
+extend_all-requires c = chained_pairs c.requires.0 c.first_pairs.ensures
 
 pub returns : goal.returns
-returns c =
-    let p = c.first_pairs in
-    let x = c.extend_all in
-    joined_from c.args.w.now p.new.w c.args.base c.args.m c.requires.0 p.ensures x.new.w x.ensures
+returns c = joined_from c.requires.0 c.first_pairs.ensures c.extend_all.ensures

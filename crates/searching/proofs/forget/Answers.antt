@@ -6,4 +6,4 @@ use Rattle.searching.proofs.Marks.{forgotten}
 use Rattle.searching.proofs.forget.Goals as goal
 
 pub returns : goal.returns
-returns c = forgotten _ _ (part_cleared c.args.w.now c.fill.new.self 5120 16 none_at (omega arith) (omega arith) (search rules))
+returns c = forgotten (part_cleared c.args.w.now c.fill.new.self 5120 16 none_at (omega arith) (omega arith) (search rules))
