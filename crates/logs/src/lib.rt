@@ -47,7 +47,7 @@ impl Kind {
     pub fn is_of(self, w: u32) -> bool
         ensures { result ≡ eqb (kind w) (kind_code self) }
     {
-        w / 0x1000_0000 == self.code()
+        kind_of(w) == self.code()
     }
 
     // The word of this kind with a number.
@@ -57,6 +57,12 @@ impl Kind {
     {
         self.code() * 0x1000_0000 + number as u32
     }
+}
+
+pub fn kind_of(w: u32) -> u32
+    ensures { result ≡ kind w }
+{
+    w / 0x1000_0000
 }
 
 pub fn number_of(w: u32) -> usize
