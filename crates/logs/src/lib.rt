@@ -208,62 +208,6 @@ pub fn group_end(log: &[u32], start: usize) -> usize
     at
 }
 
-// Questions 6 and 7, of a from word at `at`: its number.
-fn from_word(log: &[u32], n: usize, at: usize, earlier: usize) -> Result<usize, Refusal>
-    requires { at + 1 < length log.now }
-    ensures { result_answer (numbered 2) result ≡ question 6 at (to_before_last log.now (at + 1)) (question 7 at (ltb earlier n) (given (2, earlier, 0))) }
-{
-    let follows = to_before_last(log, at + 1);
-    if !follows {
-        return Err(Reason::FromWithoutTo.at(at));
-    }
-    if n <= earlier {
-        return Err(Reason::NoSuchEpisode.at(at));
-    }
-    Ok(earlier)
-}
-
-// Questions 7 and 8, of a to word at `at` that has a from word before it.
-pub fn to_word(most: Ceilings, n: usize, at: usize, w: u32, count: usize) -> Result<ToWord, Refusal>
-    ensures { result_answer to_figures result ≡ question 7 at (ltb (to_episode w) n) (question 8 at (ltb count most.words) (given (3, to_episode w, to_pause w))) }
-{
-    let ceiling = most.words;
-    let to = ToWord::from(w);
-    if n <= to.episode {
-        return Err(Reason::NoSuchEpisode.at(at));
-    }
-    if ceiling <= count {
-        return Err(Reason::TooManyToWords.at(at));
-    }
-    Ok(to)
-}
-
-// Questions 4 to 8, of the word at `at`, which is neither the head nor the last.
-#[tactic(auto, using(crate::proofs::Asked::from_asked, crate::proofs::Asked::group_to, crate::proofs::Asked::group_other))]
-pub fn group_word(
-    most: Ceilings,
-    log: &[u32],
-    n: usize,
-    at: usize,
-    from: bool,
-    count: usize,
-) -> Result<LogWord, Refusal>
-    requires { at + 1 < length log.now }
-    ensures { word_answer result ≡ group_word most n at (get_or log.now at 0) (drop (at + 1) log.now) from count }
-{
-    let w = log[at];
-    if Kind::From.is_of(w) {
-        return Ok(LogWord::From(from_word(log, n, at, number_of(w))?));
-    }
-    if !Kind::To.is_of(w) {
-        return Err(Reason::UnknownKind.at(at));
-    }
-    if !from {
-        return Err(Reason::ToBeforeFrom.at(at));
-    }
-    Ok(LogWord::To(to_word(most, n, at, w, count)?))
-}
-
 // Questions 9 and 10, of the last word, `w` at `at`: its number.
 #[tactic(auto, unfolding(crate::specs::Log::end_word))]
 fn end_word(w: u32, at: usize, count: usize) -> Result<usize, Refusal>
@@ -277,32 +221,6 @@ fn end_word(w: u32, at: usize, count: usize) -> Result<usize, Refusal>
         return Err(Reason::WrongCount.at(at));
     }
     Ok(number)
-}
-
-// Questions 4 to 10, of the word at `at` behind the head.
-pub fn log_word(
-    most: Ceilings,
-    log: &[u32],
-    n: usize,
-    at: usize,
-    from: bool,
-    count: usize,
-) -> Result<LogWord, Refusal>
-    requires { at < length log.now }
-    ensures { word_answer result ≡ log_word_at most log.now n at from count }
-{
-    if at + 1 < log.len() {
-        group_word(most, log, n, at, from, count)
-    } else {
-        Ok(LogWord::End(end_word(log[at], at, count)?))
-    }
-}
-
-// A place of the log, and the count of to words before it.
-#[derive(Clone, Copy)]
-struct Stop {
-    place: usize,
-    count: usize,
 }
 
 // What hears the links of a log one by one, as the log is read.
@@ -326,42 +244,121 @@ pub trait Hear {
         ensures { (next : Next takes row_of (heard self.old) row to) → heard self.new (next.links ++ (next.from, to) ∷ []) };
 }
 
-// The place of the first word between head and end that earns a refusal, or else of the last word. The links before it are heard.
-fn first_stop<H: Hear>(most: Ceilings, log: &[u32], n: usize, hearer: &mut H) -> Stop
-    requires { (2 ≤ length log.now) × (n ≤ most.episodes) × H.takes most.episodes × H.heard hearer.old [] }
-    ensures { Stopped most log.now n result.place result.count × H.heard hearer.new (links_before log.now result.place) }
-{
-    let last = log.len() - 1;
-    let mut at = 1;
-    // How many words before `at` are no to words: the head and the from words.
-    let mut others = 1;
-    let place = 'log: loop {
-        if at == last {
-            break 'log at;
+// A place of the log, and the count of to words before it.
+#[derive(Clone, Copy)]
+struct Stop {
+    place: usize,
+    count: usize,
+}
+
+// What questions 4 to 10 are asked of: a log, with the number of its head, at a caller's ceilings.
+#[derive(Clone, Copy)]
+pub struct Questions<'a> {
+    pub most: Ceilings,
+    pub log: &'a [u32],
+    pub n: usize,
+}
+
+impl<'a> Questions<'a> {
+    // Questions 6 and 7, of a from word at `at`: its number.
+    fn from_word(self, at: usize, earlier: usize) -> Result<usize, Refusal>
+        requires { at + 1 < length self.log.now }
+        ensures { result_answer (numbered 2) result ≡ question 6 at (to_before_last self.entry.log.now (at + 1)) (question 7 at (ltb earlier self.entry.n) (given (2, earlier, 0))) }
+    {
+        let follows = to_before_last(self.log, at + 1);
+        if !follows {
+            return Err(Reason::FromWithoutTo.at(at));
         }
-        // A group starts with its from word, which answers question 5 for its to words, and question 6 says that it has one. A to word is met
-        // here only as word 1, before any from word, and refused.
-        let Ok(_) = group_word(most, log, n, at, 1 < at, at - others) else {
-            break 'log at;
-        };
-        let row = H::row(number_of(log[at]));
-        at += 1;
-        others += 1;
-        // Its to words.
-        loop {
-            let Ok(to) = to_word(most, n, at, log[at], at - others) else {
+        if self.n <= earlier {
+            return Err(Reason::NoSuchEpisode.at(at));
+        }
+        Ok(earlier)
+    }
+
+    // Questions 7 and 8, of a to word at `at` that has a from word before it.
+    pub fn to_word(self, at: usize, w: u32, count: usize) -> Result<ToWord, Refusal>
+        ensures { result_answer to_figures result ≡ question 7 at (ltb (to_episode w) self.entry.n) (question 8 at (ltb count self.entry.most.words) (given (3, to_episode w, to_pause w))) }
+    {
+        let ceiling = self.most.words;
+        let to = ToWord::from(w);
+        if self.n <= to.episode {
+            return Err(Reason::NoSuchEpisode.at(at));
+        }
+        if ceiling <= count {
+            return Err(Reason::TooManyToWords.at(at));
+        }
+        Ok(to)
+    }
+
+    // Questions 4 to 8, of the word at `at`, which is neither the head nor the last.
+    #[tactic(auto, using(crate::proofs::Asked::from_asked, crate::proofs::Asked::group_to, crate::proofs::Asked::group_other))]
+    pub fn group_word(self, at: usize, from: bool, count: usize) -> Result<LogWord, Refusal>
+        requires { at + 1 < length self.log.now }
+        ensures { word_answer result ≡ group_word self.entry.most self.entry.n at (get_or self.entry.log.now at 0) (drop (at + 1) self.entry.log.now) from count }
+    {
+        let w = self.log[at];
+        if Kind::From.is_of(w) {
+            return Ok(LogWord::From(self.from_word(at, number_of(w))?));
+        }
+        if !Kind::To.is_of(w) {
+            return Err(Reason::UnknownKind.at(at));
+        }
+        if !from {
+            return Err(Reason::ToBeforeFrom.at(at));
+        }
+        Ok(LogWord::To(self.to_word(at, w, count)?))
+    }
+
+    // Questions 4 to 10, of the word at `at` behind the head.
+    pub fn log_word(self, at: usize, from: bool, count: usize) -> Result<LogWord, Refusal>
+        requires { at < length self.log.now }
+        ensures { word_answer result ≡ log_word_at self.entry.most self.entry.log.now self.entry.n at from count }
+    {
+        if at + 1 < self.log.len() {
+            self.group_word(at, from, count)
+        } else {
+            Ok(LogWord::End(end_word(self.log[at], at, count)?))
+        }
+    }
+
+    // The place of the first word between head and end that earns a refusal, or else of the last word. The links before it are heard.
+    fn first_stop<H: Hear>(self, hearer: &mut H) -> Stop
+        requires { (2 ≤ length self.log.now) × (self.n ≤ self.most.episodes) × H.takes self.most.episodes × H.heard hearer.old [] }
+        ensures { Stopped self.entry.most self.entry.log.now self.entry.n result.place result.count × H.heard hearer.new (links_before self.entry.log.now result.place) }
+    {
+        let log = self.log;
+        let last = log.len() - 1;
+        let mut at = 1;
+        // How many words before `at` are no to words: the head and the from words.
+        let mut others = 1;
+        let place = 'log: loop {
+            if at == last {
+                break 'log at;
+            }
+            // A group starts with its from word, which answers question 5 for its to words, and question 6 says that it has one. A to word is
+            // met here only as word 1, before any from word, and refused.
+            let Ok(_) = self.group_word(at, 1 < at, at - others) else {
                 break 'log at;
             };
-            hearer.hear(row, to.episode);
+            let row = H::row(number_of(log[at]));
             at += 1;
-            if !to_before_last(log, at) {
-                break;
+            others += 1;
+            // Its to words.
+            loop {
+                let Ok(to) = self.to_word(at, log[at], at - others) else {
+                    break 'log at;
+                };
+                hearer.hear(row, to.episode);
+                at += 1;
+                if !to_before_last(log, at) {
+                    break;
+                }
             }
+        };
+        Stop {
+            place,
+            count: place - others,
         }
-    };
-    Stop {
-        place,
-        count: place - others,
     }
 }
 
@@ -380,8 +377,9 @@ pub fn read_hearing<H: Hear>(
         return Err(Reason::TooShort.at(0));
     }
     let n = head_word(most, log[0])?;
-    let stop = first_stop(most, log, n, hearer);
-    log_word(most, log, n, stop.place, 1 < stop.place, stop.count)?;
+    let asked = Questions { most, log, n };
+    let stop = asked.first_stop(hearer);
+    asked.log_word(stop.place, 1 < stop.place, stop.count)?;
     Ok(Reading {
         episodes: n,
         to_words: stop.count,
@@ -389,10 +387,7 @@ pub fn read_hearing<H: Hear>(
 }
 
 // Hears nothing.
-#[derive(Drop)]
-struct Deaf;
-
-impl Hear for Deaf {
+impl Hear for () {
     ghost heard = { λ _ _. Unit {0} };
 
     ghost takes = { λ _. Unit {0} };
@@ -410,7 +405,7 @@ impl Hear for Deaf {
 pub fn read_within(most: Ceilings, log: &[u32]) -> Result<Reading, Refusal>
     ensures { read_answer result ≡ questions most log.now }
 {
-    read_hearing(most, log, &mut Deaf)
+    read_hearing(most, log, &mut ())
 }
 
 // The service's ceilings.

@@ -3,8 +3,8 @@ use mathlib.Core.Path.{◌∙◌, sym, ap}
 use Prim.Native.Nat.{◌+◌, ◌-◌}
 use Rattle.logs.proofs.Groups.{from_episode, from_given_up, to_given_up, at_last}
 use Rattle.logs.proofs.Hearing.{heard_none, heard_from, next_link, heard_on, heard_behind}
-use Rattle.logs.proofs.first_stop.Goals as goal
-use Rattle.logs.proofs.first_stop.Goals.{then-at-last, else-at-last+in_default, else-at-last+in-Ok+in_default-to_word}
+use Rattle.logs.proofs.Questions.first_stop.Goals as goal
+use Rattle.logs.proofs.Questions.first_stop.Goals.{then-at-last, else-at-last+in_default, else-at-last+in-Ok+in_default-to_word}
 
 pub log-init : goal.log-init
 log-init g c = heard_none (g.H.Hear.heard c.args.hearer.now) _ _ _ c.requires.0 c.requires.3
@@ -13,7 +13,7 @@ pub row-row-requires : goal.row-row-requires
 row-row-requires g c =
     let at = c.log in
     let episode = from_episode _ _ _ at.at (at.at - at.others) at.invariant.group (omega (arith, at.invariant.group.within)) _ c.group_word.ensures _ c.in-Ok.is in
-    (c.args.most.episodes, c.requires.2, omega (arith, episode.1, c.requires.1, c.number_of.ensures))
+    (c.args.self.most.episodes, c.requires.2, omega (arith, episode.1, c.requires.1, c.number_of.ensures))
 
 pub loop-to-init : goal.loop-to-init
 loop-to-init g c =
