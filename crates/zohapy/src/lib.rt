@@ -1,14 +1,17 @@
 // The six services for C and Rust: exported functions, which answer in plain numbers.
 #![tactic(auto)]
 
-ghost use Rattle.std.specs.Prelude.{◌≡◌};
-ghost use Rattle.logs.specs.Answer.{result_answer};
+ghost use Rattle.std.specs.Prelude.{◌≡◌, ◌-◌};
+ghost use Rattle.logs.specs.Answer.{result_answer, read_answer};
 ghost use Rattle.logs.specs.Log.{service, questions};
 ghost use Rattle.link_count.specs.Counted.{count_asked};
+ghost use Rattle.report.specs.Report.{outcome_answer};
+ghost use Rattle.threads.specs.Found.{found_number, found_stretch};
 ghost use Rattle.zohapy.specs.Exported.{read_numbers, numbers, Reports, Copies, Trims, Thread};
 
-use logs::{Reason, Refusal};
+use logs::{Reading, Reason, Refusal};
 use report::Outcome;
+use threads::Stretch;
 
 // A reading: number 0 with n and the count of to words, or a refusal's number and place. What is not given is 0.
 #[repr(C)]
@@ -37,6 +40,27 @@ pub struct ThreadAnswer {
     pub length: usize,
 }
 
+impl From<Result<Reading, Refusal>> for ReadAnswer {
+    ghost from_gives = { λ r a. read_numbers (read_answer r) ≡ (a.number, a.place, a.episodes, a.links) };
+
+    fn from(read: Result<Reading, Refusal>) -> ReadAnswer {
+        match read {
+            Ok(reading) => ReadAnswer {
+                number: 0,
+                place: 0,
+                episodes: reading.episodes,
+                links: reading.to_words,
+            },
+            Err(refusal) => ReadAnswer {
+                number: refusal.number(),
+                place: refusal.place,
+                episodes: 0,
+                links: 0,
+            },
+        }
+    }
+}
+
 impl From<Result<usize, Refusal>> for Answer {
     ghost from_gives = { λ r a. numbers (result_answer (λ c. c) r) ≡ (a.number, a.value) };
 
@@ -54,25 +78,52 @@ impl From<Result<usize, Refusal>> for Answer {
     }
 }
 
+impl From<Outcome> for Answer {
+    ghost from_gives = { λ o a. numbers (outcome_answer o) ≡ (a.number, a.value) };
+
+    fn from(outcome: Outcome) -> Answer {
+        match outcome {
+            Outcome::Report(words) => Answer {
+                number: 0,
+                value: words,
+            },
+            Outcome::Loop(length) => Answer {
+                number: Reason::Loop.at(length).number(),
+                value: length,
+            },
+            Outcome::Refused(number, place) => Answer {
+                number,
+                value: place,
+            },
+        }
+    }
+}
+
+impl From<Result<Stretch, Refusal>> for ThreadAnswer {
+    ghost from_gives = { λ r a. let s = found_stretch r in (a.number ≡ found_number r) × (a.start ≡ s.start) × (a.length ≡ s.end - s.start) };
+
+    fn from(found: Result<Stretch, Refusal>) -> ThreadAnswer {
+        match found {
+            Ok(stretch) => ThreadAnswer {
+                number: 0,
+                start: stretch.start,
+                length: stretch.end.saturating_sub(stretch.start),
+            },
+            Err(refusal) => ThreadAnswer {
+                number: refusal.number(),
+                start: 0,
+                length: 0,
+            },
+        }
+    }
+}
+
 // Questions 1 to 10.
 #[unsafe(no_mangle)]
 pub extern "C" fn zohapy_read(log: &[u32]) -> ReadAnswer
     ensures { read_numbers (questions service log.now) ≡ (result.number, result.place, result.episodes, result.links) }
 {
-    match logs::read(log) {
-        Ok(reading) => ReadAnswer {
-            number: 0,
-            place: 0,
-            episodes: reading.episodes,
-            links: reading.to_words,
-        },
-        Err(refusal) => ReadAnswer {
-            number: refusal.number(),
-            place: refusal.place,
-            episodes: 0,
-            links: 0,
-        },
-    }
+    ReadAnswer::from(logs::read(log))
 }
 
 // The number of different links of a log.
@@ -88,20 +139,7 @@ pub extern "C" fn zohapy_links(log: &[u32]) -> Answer
 pub extern "C" fn zohapy_report(log: &[u32], out: &mut [u32], work: &mut [u32]) -> Answer
     ensures { Reports log.now out.old work.old out.new work.new result.number result.value }
 {
-    match report::report(log, out, work) {
-        Outcome::Report(words) => Answer {
-            number: 0,
-            value: words,
-        },
-        Outcome::Loop(length) => Answer {
-            number: Reason::Loop.at(length).number(),
-            value: length,
-        },
-        Outcome::Refused(number, place) => Answer {
-            number,
-            value: place,
-        },
-    }
+    Answer::from(report::report(log, out, work))
 }
 
 // The fair copy of a log.
@@ -125,16 +163,5 @@ pub extern "C" fn zohapy_trimmed_copy(log: &[u32], out: &mut [u32], work: &mut [
 pub extern "C" fn zohapy_thread(report: &[u32], i: usize) -> ThreadAnswer
     ensures { Thread report.now i result.number result.start result.length }
 {
-    match threads::find_thread(report, i) {
-        Ok(stretch) => ThreadAnswer {
-            number: 0,
-            start: stretch.start,
-            length: stretch.end - stretch.start,
-        },
-        Err(refusal) => ThreadAnswer {
-            number: refusal.number(),
-            start: 0,
-            length: 0,
-        },
-    }
+    ThreadAnswer::from(threads::find_thread(report, i))
 }
