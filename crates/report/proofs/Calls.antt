@@ -3,8 +3,7 @@ use mathlib.Core.Path.{◌≡◌, refl, ◌∙◌}
 use mathlib.Core.List.{List, ◌++◌}
 use Prim.Native.Nat.{ℕ, ◌≤◌, ◌<◌}
 use native.Mathlib.Omega.{arith}
-use lib.ListN.{length, take, drop, replicate}
-use lib.Seq.{length-take-le}
+use lib.ListN.{length, drop, replicate}
 use Rattle.logs.specs.Answer.{given, refused}
 use Rattle.logs.specs.Log.{questions, graph_of, PassedLog, PassesWith}
 use Rattle.logs.specs.declared.Ceilings.{Ceilings}
@@ -50,10 +49,9 @@ module _ (m : Ceilings) (l o w : List ℕ) (n t : ℕ) (e : asked m (λ j u. rep
   left_answered o' (Refused q p) d f = absurd d
 
 -- the work words, made zero, and the others
-pub work_cleared : (w part : List ℕ) → work_words ≤ length w → part ≡ replicate (length (take work_words w)) 0
-    → part ++ drop work_words w ≡ cleared w
+pub work_cleared : (w part : List ℕ) → part ≡ replicate work_words 0 → part ++ drop work_words w ≡ cleared w
 unfolding cleared
-work_cleared w part h f = rw (f, length-take-le work_words w h)
+work_cleared w part e = rw e
 
 -- the links and the ways of the log stand in words that were zero
 pub ready : (l : List ℕ) (n t : ℕ) {w w₁ w₂ : List ℕ} → PassesWith l n t → n < 256 → used_words ≤ length w

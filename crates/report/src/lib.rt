@@ -72,8 +72,8 @@ fn report_asked(
 }
 
 // The links and the ways of a log, in work words of which those that are used are made zero first.
-pub fn prepare(log: Log, w: &mut [u32])
-    requires { (log.episodes < 256) × (length w.old ≡ work_words) }
+pub fn prepare(log: Log, w: &mut [u32; WORK_WORDS])
+    requires { log.episodes < 256 }
     ensures { Ready (graph_of log.entry.words.now) log.entry.episodes w.new }
 {
     bits::clear(&mut w[0..USED]);
@@ -104,9 +104,9 @@ fn answer(n: usize, out: &mut [u32], w: &mut [u32]) -> Outcome
 }
 
 // The report or the loop of a log, in work words of which none is left as it was.
-fn solve(log: Log, out: &mut [u32], w: &mut [u32]) -> Outcome
-    requires { (log.episodes < 256) × (report_need log.episodes ≤ length out.old) × (length w.old ≡ work_words) }
-    ensures { Answered (graph_of log.entry.words.now) out.old out.new result × (w.new ≡ replicate (length w.old) 0) }
+fn solve(log: Log, out: &mut [u32], w: &mut [u32; WORK_WORDS]) -> Outcome
+    requires { (log.episodes < 256) × (report_need log.episodes ≤ length out.old) }
+    ensures { Answered (graph_of log.entry.words.now) out.old out.new result × (w.new ≡ replicate work_words 0) }
 {
     prepare(log, w);
     let outcome = answer(log.episodes, out, w);
@@ -121,7 +121,7 @@ fn report_within(most: Ceilings, log: &[u32], out: &mut [u32], work: &mut [u32])
 {
     match report_asked(most, log, out.len(), work.len()) {
         Err(refusal) => Outcome::from(refusal),
-        Ok(log) => solve(log, out, &mut work[0..WORK_WORDS]),
+        Ok(log) => solve(log, out, work.first_chunk_mut().unwrap()),
     }
 }
 

@@ -9,4 +9,4 @@ pub returns : goal.returns
 returns c =
     let l = c.args.log in
     let zeroed = part_cleared c.args.w.now c.clear.new.w 0 used_words used_words (omega arith) (omega (arith, c.requires)) c.clear.ensures in
-    ready l.words.now l.episodes l.to_words l.passes c.requires.0 (omega (arith, c.requires)) zeroed c.reachability.ensures
+    ready l.words.now l.episodes l.to_words l.passes c.requires (omega (arith, c.requires)) zeroed c.reachability.ensures

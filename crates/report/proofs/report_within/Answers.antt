@@ -3,20 +3,17 @@
 use mathlib.Core.Path.{sym, subst}
 use mathlib.Core.List.{List}
 use Prim.Native.Nat.{ℕ}
-use native.Mathlib.Omega.{arith}
-use lib.Seq.{length-take-le}
 use Rattle.logs.specs.Answer.{reason_number}
 use Rattle.logs.specs.Log.{graph_of}
-use Rattle.report.specs.Report.{work_words}
 use Rattle.report.specs.Solving.{Answered}
 use Rattle.report.proofs.Calls.{passed, passed_few, left_denied, left_answered, work_cleared}
 use Rattle.report.proofs.report_within.Goals as goal
 
-pub slice_bounds-solve-end : goal.slice_bounds-solve-end
-slice_bounds-solve-end c =
+pub unwrap-requires : goal.unwrap-requires
+unwrap-requires c =
     let a = c.args in
     let l = c.in-Ok.log in
-    omega (arith, (passed a.most a.log.now a.out.now a.work.now l.episodes l.to_words (sym c.in-Ok.ensures.answer)).2)
+    c.first_chunk_mut.ensures.variant.1 (passed a.most a.log.now a.out.now a.work.now l.episodes l.to_words (sym c.in-Ok.ensures.answer)).2
 
 pub solve-requires : goal.solve-requires
 solve-requires c =
@@ -24,7 +21,7 @@ solve-requires c =
     let l = c.in-Ok.log in
     let yes = sym c.in-Ok.ensures.answer in
     let p = passed a.most a.log.now a.out.now a.work.now l.episodes l.to_words yes in
-    (passed_few a.most a.log.now a.out.now a.work.now l.episodes l.to_words yes c.requires, p.1, length-take-le work_words a.work.now p.2)
+    (passed_few a.most a.log.now a.out.now a.work.now l.episodes l.to_words yes c.requires, p.1)
 
 pub returns-in-Err : goal.returns-in-Err
 returns-in-Err c =
@@ -36,8 +33,6 @@ pub returns-in-Ok : goal.returns-in-Ok
 returns-in-Ok c =
     let a = c.args in
     let l = c.in-Ok.log in
-    let yes = sym c.in-Ok.ensures.answer in
-    let p = passed a.most a.log.now a.out.now a.work.now l.episodes l.to_words yes in
-    left_answered a.most a.log.now a.out.now a.work.now l.episodes l.to_words yes c.solve.new.out c.solve.result
+    left_answered a.most a.log.now a.out.now a.work.now l.episodes l.to_words (sym c.in-Ok.ensures.answer) c.solve.new.out c.solve.result
     (subst (λ (v : List ℕ). Answered (graph_of v) a.out.now c.solve.new.out c.solve.result) c.in-Ok.ensures.same c.solve.ensures.0)
-    (work_cleared a.work.now c.solve.new.w p.2 c.solve.ensures.1)
+    (work_cleared a.work.now c.solve.new.w c.solve.ensures.1)
