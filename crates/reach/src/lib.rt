@@ -8,12 +8,12 @@ ghost use Rattle.rising.specs.Rising.{NoWays};
 ghost use Rattle.reach.specs.Reach.{NoneMarked, GroupMarked, LinksMarked, LinksCopied, HoldsWays, RowClosed, RoundClosed, Closed, WaysReached};
 ghost use Rattle.reach.specs.Reach.{ReachedLog, FirstLoop, episode_or};
 
-use bits::{LINKS, WAYS};
+use bits::{LINKS, NEXT, WAYS};
 use logs::{Group, Log, ToWord};
 
 // Marks the links of a group in the row of its episode.
-fn mark_group(group: Group, w: &mut [u32])
-    requires { (group.from < 256) × EpisodesBelow 256 group.to_words.now × (next_at ≤ length w.old) }
+fn mark_group(group: Group, w: &mut [u32; NEXT])
+    requires { (group.from < 256) × EpisodesBelow 256 group.to_words.now }
     ensures { GroupMarked group.entry.from group.entry.to_words.now w.old w.new }
 {
     let row = LINKS + 8 * group.from;
@@ -23,8 +23,8 @@ fn mark_group(group: Group, w: &mut [u32])
 }
 
 // Marks the links of a log, group by group.
-fn mark_links(log: Log, w: &mut [u32])
-    requires { (log.episodes ≤ 256) × (next_at ≤ length w.old) × NoneMarked w.old }
+fn mark_links(log: Log, w: &mut [u32; NEXT])
+    requires { (log.episodes ≤ 256) × NoneMarked w.old }
     ensures { LinksMarked log.entry.words.now w.old w.new }
 {
     for group in log.groups() {
@@ -33,18 +33,16 @@ fn mark_links(log: Log, w: &mut [u32])
 }
 
 // Copies the links to where the ways are to stand.
-fn copy_links(w: &mut [u32])
-    requires { next_at ≤ length w.old }
+fn copy_links(w: &mut [u32; NEXT])
     ensures { LinksCopied w.old w.new }
 {
-    let (links, rest) = w.split_at_mut(WAYS);
-    let (ways, _) = rest.split_at_mut(WAYS);
+    let (links, ways) = w.split_at_mut(WAYS);
     ways.copy_from_slice(links);
 }
 
 // Where `a` has a way to `k`, gives it the ways of `k`, which are `ways`.
-fn close_row(w: &mut [u32], a: usize, k: usize, ways: &[u32; 8])
-    requires { (next_at ≤ length w.old) × (a < 256) × (k < 256) × HoldsWays w.old k ways.now }
+fn close_row(w: &mut [u32; NEXT], a: usize, k: usize, ways: &[u32; 8])
+    requires { (a < 256) × (k < 256) × HoldsWays w.old k ways.now }
     ensures { RowClosed w.old w.new a k }
 {
     let row = WAYS + 8 * a;
@@ -54,8 +52,8 @@ fn close_row(w: &mut [u32], a: usize, k: usize, ways: &[u32; 8])
 }
 
 // One round of Warshall's closure: ways by way of `k`, whose ways are the same throughout.
-fn close_round(w: &mut [u32], n: usize, k: usize)
-    requires { (next_at ≤ length w.old) × (n ≤ 256) × (k < n) }
+fn close_round(w: &mut [u32; NEXT], n: usize, k: usize)
+    requires { (n ≤ 256) × (k < n) }
     ensures { RoundClosed w.old w.new n k }
 {
     let ways = bits::row_at(w, WAYS + 8 * k);
@@ -65,8 +63,8 @@ fn close_round(w: &mut [u32], n: usize, k: usize)
 }
 
 // The closure of the links, which stand where the ways are to stand.
-fn close(w: &mut [u32], n: usize)
-    requires { (next_at ≤ length w.old) × (n ≤ 256) }
+fn close(w: &mut [u32; NEXT], n: usize)
+    requires { n ≤ 256 }
     ensures { Closed w.old w.new n }
 {
     for k in 0..n {
@@ -75,8 +73,8 @@ fn close(w: &mut [u32], n: usize)
 }
 
 // The ways of the links.
-fn reach_ways(w: &mut [u32], n: usize)
-    requires { (next_at ≤ length w.old) × (n ≤ 256) × NoWays w.old }
+fn reach_ways(w: &mut [u32; NEXT], n: usize)
+    requires { (n ≤ 256) × NoWays w.old }
     ensures { WaysReached w.old w.new n }
 {
     if rising::rises(w, n) {
@@ -92,8 +90,9 @@ pub fn reachability(log: Log, w: &mut [u32])
     requires { (log.episodes ≤ 256) × (next_at ≤ length w.old) × NoneMarked w.old }
     ensures { ReachedLog log.entry.words.now w.old w.new }
 {
-    mark_links(log, w);
-    reach_ways(w, log.episodes);
+    let front = w.first_chunk_mut::<NEXT>().unwrap();
+    mark_links(log, front);
+    reach_ways(front, log.episodes);
 }
 
 // The first episode that has a way to itself.

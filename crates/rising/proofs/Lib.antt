@@ -1,2 +1,3 @@
 -- The ways of links that rise.
 pub mod Rising
+pub mod Front

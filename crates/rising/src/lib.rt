@@ -5,7 +5,7 @@ ghost use Rattle.std.specs.Prelude.{◌≡◌, ℕ, ◌+◌, ◌*◌, ◌<◌, �
 ghost use Rattle.bits.specs.Work.{links_at, ways_at, next_at};
 ghost use Rattle.rising.specs.Rising.{NoWays, RiseTest, EndsTaken, RowReached, LinkNoted, RisingReached};
 
-use bits::{LINKS, WAYS};
+use bits::{LINKS, NEXT, WAYS};
 
 // Whether each link goes to a higher number.
 pub fn rises(w: &[u32], n: usize) -> bool
@@ -23,8 +23,8 @@ pub fn rises(w: &[u32], n: usize) -> bool
 }
 
 // Gives the ways of an episode, which start at word `ways`, its links to episodes that are not in `linked`; its links start at word `links`.
-fn take_ends(w: &mut [u32], links: usize, ways: usize, linked: &[u32; 8])
-    requires { (links + 8 ≤ ways) × (ways + 8 ≤ length w.old) }
+fn take_ends(w: &mut [u32; NEXT], links: usize, ways: usize, linked: &[u32; 8])
+    requires { (links + 8 ≤ ways) × (ways + 8 ≤ next_at) }
     ensures { (a : ℕ) → links ≡ links_at + 8 * a → ways ≡ ways_at + 8 * a
         → EndsTaken w.old w.new a linked.now }
 {
@@ -35,8 +35,8 @@ fn take_ends(w: &mut [u32], links: usize, ways: usize, linked: &[u32; 8])
 
 // Gives `a` its ways, where links rise, all above `a` have theirs, and those of them that have links are in `linked`: first the links to
 // episodes without links, then each link that is not among the ways yet, and the ways from there.
-fn reach_row(w: &mut [u32], a: usize, linked: &[u32; 8])
-    requires { (next_at ≤ length w.old) × (a < 256) }
+fn reach_row(w: &mut [u32; NEXT], a: usize, linked: &[u32; 8])
+    requires { a < 256 }
     ensures { RowReached w.old w.new a linked.now }
 {
     let links = LINKS + 8 * a;
@@ -51,8 +51,8 @@ fn reach_row(w: &mut [u32], a: usize, linked: &[u32; 8])
 }
 
 // Notes in `linked` whether `a` has a link.
-fn note_linked(w: &[u32], a: usize, linked: &mut [u32; 8])
-    requires { (next_at ≤ length w.now) × (a < 256) }
+fn note_linked(w: &[u32; NEXT], a: usize, linked: &mut [u32; 8])
+    requires { a < 256 }
     ensures { LinkNoted w.now a linked.old linked.new }
 {
     if bits::first_bit(w, LINKS + 8 * a).is_some() {
@@ -65,9 +65,10 @@ pub fn reach_rising(w: &mut [u32], n: usize)
     requires { (next_at ≤ length w.old) × (n ≤ 256) × NoWays w.old }
     ensures { RisingReached w.old w.new n }
 {
+    let front = w.first_chunk_mut::<NEXT>().unwrap();
     let mut linked = [0; 8];
     for a in (0..n).rev() {
-        reach_row(w, a, &linked);
-        note_linked(w, a, &mut linked);
+        reach_row(front, a, &linked);
+        note_linked(front, a, &mut linked);
     }
 }

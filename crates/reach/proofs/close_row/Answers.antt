@@ -8,7 +8,7 @@ use Rattle.reach.proofs.close_row.Goals as goal
 
 pub returns-then-bit_at : goal.returns-then-bit_at
 returns-then-bit_at c =
-    row_joined_closed c.args.w.now c.join_from.new.w c.args.ways.now c.args.a c.args.k c.requires.1 c.requires.3
+    row_joined_closed c.args.w.now c.join_from.new.w c.args.ways.now c.args.a c.args.k c.requires.0 c.requires.2
     (eqb-true _ 1 (sym c.if-bit_at.ensures)) c.join_from.ensures
 
 pub returns-else-bit_at : goal.returns-else-bit_at

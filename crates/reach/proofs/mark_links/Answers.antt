@@ -14,7 +14,7 @@ loop-group-init c =
       tt,
       tt,
       ap (λ (s : Groups). s.log) same ∙ first.0,
-      marking_start c.into_iter-group-iterator.result c.args.w.now (ap (λ (s : Groups). s.at) same ∙ first.1) c.requires.2,
+      marking_start c.into_iter-group-iterator.result c.args.w.now (ap (λ (s : Groups). s.at) same ∙ first.1) c.requires.1,
     )
 
 pub mark_group-requires : goal.mark_group-requires
@@ -24,7 +24,6 @@ mark_group-requires c =
     let few : _ = ap (λ (l : Log). l.episodes) c.loop-group.invariant.2 in (
       omega (arith, from_below s c.in-Some.group _ d, few),
       λ j h. omega (arith, to_below s c.in-Some.group _ d j h, few),
-      omega arith,
     )
 
 pub loop-group-preserved : goal.loop-group-preserved

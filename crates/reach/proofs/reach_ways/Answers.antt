@@ -5,7 +5,7 @@ use Rattle.reach.proofs.reach_ways.Goals as goal
 
 pub returns-then-rises : goal.returns-then-rises
 returns-then-rises c =
-    rising_reached c.args.w.now c.reach_rising.new.w c.args.n c.requires.1
+    rising_reached c.args.w.now c.reach_rising.new.w c.args.n c.requires.0
     (c.rises.ensures.all c.if-rises.true) c.reach_rising.ensures
 
 pub returns : goal.returns

@@ -5,4 +5,4 @@ use Rattle.rising.proofs.Rising.{InRising}
 use Rattle.rising.proofs.reach_rising.Given as goal
 
 abbrev pub invariant-loop-a : goal.invariant-loop-a
-invariant-loop-a l = InRising l.initial.w l.w l.linked l.n l.a
+invariant-loop-a l = InRising l.initial.front l.front l.linked l.n l.a
