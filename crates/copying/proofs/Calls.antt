@@ -13,7 +13,7 @@ use Rattle.logs.specs.Log.{content_of, graph_of}
 use Rattle.logs.specs.declared.passed.Log.{Log}
 use Rattle.logs.proofs.Laws.{graph_episodes}
 use Rattle.copying.specs.FairCopy.{linked_to, group, copy_words}
-use Rattle.copying.specs.Copying.{block_words, BlockMarks, GroupWritten}
+use Rattle.copying.specs.Copying.{BlockMarks, GroupWritten}
 use Rattle.copying.specs.Calls.{RoomFor, CalledBelow, WritesGroups}
 use Rattle.copying.proofs.Rows.{next_block}
 use Rattle.copying.proofs.Copies.{Copying, copying_room}
@@ -58,7 +58,6 @@ Held = Bor Log × MutBor (List ℕ)
 -- what they need for the group of `a`
 pub record Asked (f : Held) (a : ℕ) (o : List ℕ) : Type 0 where
   pub few : f.0.now.episodes ≤ 256
-  pub long : length f.1.now ≡ block_words
   pub marks : a % 64 ≢ 0 → BlockMarks (a / 64) (content_of f.0.now.words.now) f.1.now
   pub below : a < f.0.now.episodes
   pub room : let l = f.0.now.words.now in
@@ -67,7 +66,6 @@ pub record Asked (f : Held) (a : ℕ) (o : List ℕ) : Type 0 where
 -- and what they leave
 pub record Left (f : Held) (a : ℕ) (o : List ℕ) (r : ℕ) (o' : List ℕ) (f' : Held) : Type 0 where
   pub log : f'.0.now ≡ f.0.now
-  pub size : length f'.1.now ≡ length f.1.now
   pub marks : BlockMarks (a / 64) (content_of f.0.now.words.now) f'.1.now
   pub group : let l = f.0.now.words.now in
       GroupWritten a (least_pause (content_of l) a) (linked_to a (graph_of l).links f.0.now.episodes) o o' r
@@ -75,16 +73,15 @@ pub record Left (f : Held) (a : ℕ) (o : List ℕ) (r : ℕ) (o' : List ℕ) (f
 -- what stands before the group of `a`
 record Ready (l : Log) (a : ℕ) (f : Held) : Type 0 where
   log : f.0.now ≡ l
-  long : length f.1.now ≡ block_words
   marks : a % 64 ≢ 0 → BlockMarks (a / 64) (content_of l.words.now) f.1.now
 
 -- then they write the groups of the log's graph
 pub fair_groups : (pre : Held → ℕ → MutBor (List ℕ) → Type 0) (step : Held → ℕ → MutBor (List ℕ) → ℕ → MutBor (List ℕ) → Held → Type 0)
     → ((a : ℕ) (f : Held) (o : MutBor (List ℕ)) → Asked f a o.now → pre f a o)
     → ((a r : ℕ) (f f' : Held) (o o' : MutBor (List ℕ)) → step f a o r o' f' → Left f a o.now r o'.now f')
-    → (f : Held) → f.0.now.episodes ≤ 256 → length f.1.now ≡ block_words
+    → (f : Held) → f.0.now.episodes ≤ 256
     → WritesGroups pre step (least_pause (content_of f.0.now.words.now)) (graph_of f.0.now.words.now) f
-fair_groups pre step may leave f few long =
+fair_groups pre step may leave f few =
     let l = f.0.now in
     let count : (graph_of l.words.now).n ≡ l.episodes = graph_episodes _ l.words.now l.episodes l.to_words l.passes in
     writes_groups pre step (least_pause (content_of l.words.now)) (graph_of l.words.now) (Ready l)
@@ -92,7 +89,6 @@ fair_groups pre step may leave f few long =
     may a e o
     (record {
       few = rw s.log few;
-      long = s.long;
       marks = rw s.log s.marks;
       below = rw (s.log, ← count) h;
       room = rw (s.log, ← count) room;
@@ -101,9 +97,8 @@ fair_groups pre step may leave f few long =
     let left = leave a r e e' o o' d in (
       record {
         log = left.log ∙ s.log;
-        long = left.size ∙ s.long;
         marks = next_block a (content_of l.words.now) e'.1.now (rw s.log at left.marks);
       },
       rw (s.log, ← count) at left.group,
     ))
-    f (record { log = refl; long = long; marks = λ ne. absurd (ne refl) })
+    f (record { log = refl; marks = λ ne. absurd (ne refl) })

@@ -15,20 +15,22 @@ ghost use Rattle.copying.specs.Copying.{block_words, BlockMarks, Lowered, GroupT
 
 use logs::{Group, Kind, Log, ToWord};
 
+// The words of a block.
+pub const BLOCK: usize = 16384;
+
 // Lowers the mark at `at` to the pause plus one, where there is none yet or a higher one.
 fn lower(w: &mut [u32], at: usize, pause: u32)
     requires { (at < length w.old) × (pause < 2 ^ 12) }
     ensures { Lowered at pause w.old w.new }
 {
-    let mark = w[at];
-    if mark == 0 || pause + 1 < mark {
+    if w[at].checked_sub(1).is_none_or(|least| pause < least) {
         w[at] = pause + 1;
     }
 }
 
 // Marks the links of a group, in the row of its episode in its block.
-fn mark_group(group: Group, w: &mut [u32])
-    requires { EpisodesBelow 256 group.to_words.now × (length w.old ≡ block_words) }
+fn mark_group(group: Group, w: &mut [u32; BLOCK])
+    requires { EpisodesBelow 256 group.to_words.now }
     ensures { GroupTaken (group.entry.from / 64) group.entry.from group.entry.to_words.now w.old w.new }
 {
     let row = group.from % 64 * 256;
@@ -39,8 +41,8 @@ fn mark_group(group: Group, w: &mut [u32])
 }
 
 // Marks the links of a log from the episodes of a block, in words that are zero.
-fn mark_block(log: Log, block: usize, w: &mut [u32])
-    requires { (log.episodes ≤ 256) × (length w.old ≡ block_words) × (w.old ≡ replicate (length w.old) 0) }
+fn mark_block(log: Log, block: usize, w: &mut [u32; BLOCK])
+    requires { (log.episodes ≤ 256) × (w.old ≡ replicate (length w.old) 0) }
     ensures { BlockMarks block (content_of log.entry.words.now) w.new }
 {
     for group in log.groups() {
@@ -51,8 +53,8 @@ fn mark_block(log: Log, block: usize, w: &mut [u32])
 }
 
 // The marks of the block that `a` is in, made where it is the first episode there.
-fn block_of(log: Log, a: usize, w: &mut [u32])
-    requires { (log.episodes ≤ 256) × (length w.old ≡ block_words) × (a % 64 ≢ 0 → BlockMarks (a / 64) (content_of log.words.now) w.old) }
+fn block_of(log: Log, a: usize, w: &mut [u32; BLOCK])
+    requires { (log.episodes ≤ 256) × (a % 64 ≢ 0 → BlockMarks (a / 64) (content_of log.words.now) w.old) }
     ensures { BlockMarks (a / 64) (content_of log.entry.words.now) w.new }
 {
     if a % 64 == 0 {
@@ -71,12 +73,9 @@ fn write_group(row: &[u32], a: usize, out: &mut [u32]) -> usize
 {
     let mut links = 0;
     for (b, mark) in row.iter().enumerate() {
-        if *mark != 0 {
+        if let Some(pause) = mark.checked_sub(1) {
             links += 1;
-            let to = ToWord {
-                episode: b,
-                pause: *mark - 1,
-            };
+            let to = ToWord { episode: b, pause };
             out[links] = to.word();
         }
     }
@@ -86,23 +85,8 @@ fn write_group(row: &[u32], a: usize, out: &mut [u32]) -> usize
     links
 }
 
-// The links of `a`, marked and written.
-fn copy_row(log: Log, a: usize, out: &mut [u32], w: &mut [u32]) -> usize
-    requires { (log.episodes ≤ 256) × (length w.old ≡ block_words)
-        × (a % 64 ≢ 0 → BlockMarks (a / 64) (content_of log.words.now) w.old)
-        × (a < log.episodes)
-        × (length (group a (least_pause (content_of log.words.now) a) (linked_to a (graph_of log.words.now).links log.episodes)) < length out.old) }
-    ensures { BlockMarks (a / 64) (content_of log.entry.words.now) w.new
-        × GroupWritten a (least_pause (content_of log.entry.words.now) a) (linked_to a (graph_of log.entry.words.now).links log.entry.episodes)
-        out.old out.new result }
-{
-    block_of(log, a, w);
-    let row = a % 64 * 256;
-    write_group(&w[row..row + log.episodes], a, out)
-}
-
 // How many words a group of so many links has.
-fn group_words(links: usize) -> usize
+pub fn group_words(links: usize) -> usize
     requires { links < 2 ^ 28 }
     ensures { result ≡ group_length links }
 {
@@ -111,9 +95,9 @@ fn group_words(links: usize) -> usize
 
 // How many words have been written, and the links among them.
 #[derive(Clone, Copy, Debug, PartialEq, Eq)]
-struct Written {
-    words: usize,
-    links: usize,
+pub struct Written {
+    pub words: usize,
+    pub links: usize,
 }
 
 // Writes the groups of all episodes behind the first word, each by a call of `write_row`.
@@ -138,7 +122,7 @@ fn write_groups<F: FnMut(usize, &mut [u32]) -> usize>(
 }
 
 // Writes the head before the groups and the end behind them.
-fn write_ends(n: usize, words: usize, links: usize, out: &mut [u32])
+pub fn write_ends(n: usize, words: usize, links: usize, out: &mut [u32])
     requires { Small n × Small links × (words < length out.old) }
     ensures { out.new ≡ set (set out.old 0 (word 1 n)) words (word 15 links) }
 {
@@ -163,10 +147,25 @@ pub fn write_by_rows<F: FnMut(usize, &mut [u32]) -> usize>(
 }
 
 // Writes the fair copy of a log, and gives its count of words.
-pub fn write_copy(log: Log, out: &mut [u32], w: &mut [u32]) -> usize
-    requires { (log.episodes ≤ 256) × (length w.old ≡ block_words) × (length (fair_words (content_of log.words.now)) ≤ length out.old) }
+pub fn write_copy(log: Log, out: &mut [u32], w: &mut [u32; BLOCK]) -> usize
+    requires { (log.episodes ≤ 256) × (length (fair_words (content_of log.words.now)) ≤ length out.old) }
     ensures { (result ≡ length (fair_words (content_of log.entry.words.now)))
         × BeginsWith (fair_words (content_of log.entry.words.now)) out.old out.new }
 {
-    write_by_rows(log.episodes, out, |a, rest| copy_row(log, a, rest, w))
+    write_by_rows(
+        log.episodes,
+        out,
+        |a, rest|
+            requires { (log.episodes ≤ 256) × (a < log.episodes) × (a % 64 ≢ 0 → BlockMarks (a / 64) (content_of log.words.now) w.now)
+                × (length (group a (least_pause (content_of log.words.now) a) (linked_to a (graph_of log.words.now).links log.episodes)) < length rest.old) }
+            ensures { BlockMarks (a / 64) (content_of log.entry.words.now) w.exit.now
+                × GroupWritten a (least_pause (content_of log.entry.words.now) a) (linked_to a (graph_of log.entry.words.now).links log.entry.episodes)
+                rest.old rest.new result }
+        {
+            block_of(log, a, w);
+            let marks = &*w;
+            let row = a % 64 * 256;
+            write_group(&marks[row..row + log.episodes], a, rest)
+        },
+    )
 }

@@ -1,17 +1,17 @@
 -- A fair copy call by what its questions answer: from each answer to what the call leaves.
 use mathlib.Core.Path.{◌≡◌, refl, sym}
 use mathlib.Core.List.{List}
-use Prim.Native.Nat.{ℕ}
+use Prim.Native.Nat.{ℕ, ◌≤◌}
 use lib.ListN.{length}
 use Rattle.std.specs.Prelude.{Ok, Err}
 use Rattle.logs.specs.Answer.{given, refused, reason_number}
-use Rattle.logs.specs.Log.{content_of, graph_of}
+use Rattle.logs.specs.Log.{questions, content_of, graph_of}
 use Rattle.logs.specs.declared.Ceilings.{Ceilings}
 use Rattle.logs.specs.declared.Refusal.{Refusal}
 use Rattle.logs.proofs.Laws.{graph_episodes, graph_count}
 use Rattle.writing.specs.Layout.{BeginsWith}
 use Rattle.copying.specs.FairCopy.{fair_words, fair_need}
-use Rattle.report.specs.Report.{cleared}
+use Rattle.report.specs.Report.{work_words, cleared}
 use Rattle.fair_copy.specs.Copied.{copy_asked, CopyLeft}
 use Rattle.report.proofs.Asked.{asked_given}
 
@@ -20,6 +20,11 @@ pub copy_refused : (m : Ceilings) (l o w : List ℕ) (r : Refusal) → copy_aske
     → CopyLeft m l o w o w (Err r)
 unfolding CopyLeft
 copy_refused m l o w r e = (e, refl, refl)
+
+-- where the questions are answered yes, those of the log are, and the lent buffers are long enough
+pub copy_passed : (m : Ceilings) (l : List ℕ) {out work n t : ℕ} → given (n, t) ≡ copy_asked m l out work
+    → (questions m l ≡ given (n, t)) × (fair_need t ≤ out) × (work_words ≤ work)
+copy_passed m l {out} {work} {n} {t} e = asked_given m (λ j u. fair_need u) l out work n t (sym e)
 
 -- questions that are answered yes were asked of the graph
 pub asked_graph : (m : Ceilings) (l : List ℕ) (out work n t : ℕ) → copy_asked m l out work ≡ given (n, t)

@@ -13,11 +13,11 @@ use logs::{Ceilings, Log, Refusal};
 use report::WORK_WORDS;
 
 // The fair copy of a log, in work words of which none is left as it was.
-fn copy(log: Log, out: &mut [u32], work: &mut [u32]) -> usize
-    requires { (log.episodes ≤ 256) × (length (fair_words (content_of log.words.now)) ≤ length out.old) × (length work.old ≡ work_words) }
+fn copy(log: Log, out: &mut [u32], work: &mut [u32; WORK_WORDS]) -> usize
+    requires { (log.episodes ≤ 256) × (length (fair_words (content_of log.words.now)) ≤ length out.old) }
     ensures { (result ≡ length (fair_words (content_of log.entry.words.now)))
         × BeginsWith (fair_words (content_of log.entry.words.now)) out.old out.new
-        × (work.new ≡ replicate (length work.old) 0) }
+        × (work.new ≡ replicate work_words 0) }
 {
     let words = copying::write_copy(log, out, work);
     bits::clear(work);
@@ -50,7 +50,7 @@ fn fair_copy_within(
     ensures { CopyLeft most log.now out.old work.old out.new work.new result }
 {
     let log = copy_asked(most, log, out.len(), work.len())?;
-    Ok(copy(log, out, &mut work[0..WORK_WORDS]))
+    Ok(copy(log, out, work.first_chunk_mut().unwrap()))
 }
 
 // The fair copy of a log, at the service's ceilings: the count of its words, which stay in the lent output.

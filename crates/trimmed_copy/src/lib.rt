@@ -25,10 +25,10 @@ fn answer(n: usize, out: &mut [u32], w: &mut [u32]) -> Result<usize, Refusal>
 }
 
 // The trimmed copy or the loop of a log, in work words of which none is left as it was.
-fn solve(log: Log, out: &mut [u32], w: &mut [u32]) -> Result<usize, Refusal>
-    requires { (log.episodes < 256) × Room (graph_of log.words.now) (length out.old) × (length w.old ≡ work_words) }
+fn solve(log: Log, out: &mut [u32], w: &mut [u32; WORK_WORDS]) -> Result<usize, Refusal>
+    requires { (log.episodes < 256) × Room (graph_of log.words.now) (length out.old) }
     ensures { TrimAnswered (graph_of log.entry.words.now) out.old out.new result
-        × (w.new ≡ replicate (length w.old) 0) }
+        × (w.new ≡ replicate work_words 0) }
 {
     report::prepare(log, w);
     let outcome = answer(log.episodes, out, w);
@@ -47,7 +47,7 @@ fn trimmed_copy_within(
     ensures { TrimLeft most log.now out.old work.old out.new work.new result }
 {
     let log = fair_copy::copy_asked(most, log, out.len(), work.len())?;
-    solve(log, out, &mut work[0..WORK_WORDS])
+    solve(log, out, work.first_chunk_mut().unwrap())
 }
 
 // The trimmed copy of a log, at the service's ceilings: the count of its words, which stay in the lent output, as those of a loop do.

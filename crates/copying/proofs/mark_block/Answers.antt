@@ -17,16 +17,14 @@ loop-group-init c =
       tt,
       log,
       marking_start c.into_iter-group-iterator.result c.args.w.now c.args.block (ap (λ (s : Groups). s.at) same ∙ first.1)
-          (omega (arith, ap (λ (l : Log). l.episodes) log, c.requires.0)) c.requires.1 c.requires.2,
+          (omega (arith, ap (λ (l : Log). l.episodes) log, c.requires.0)) c.told-w c.requires.1,
     )
 
 pub mark_group-requires : goal.mark_group-requires
 mark_group-requires c =
     let s = c.loop-group.group-iterator in
-    let few : _ = ap (λ (l : Log). l.episodes) c.loop-group.invariant.2 in (
-      λ j h. omega (arith, to_below s c.in-Some.group _ c.in-Some.ensures.steps j h, few, c.requires.0),
-      c.loop-group.invariant.3.same_length ∙ c.requires.1,
-    )
+    let few : _ = ap (λ (l : Log). l.episodes) c.loop-group.invariant.2 in
+    λ j h. omega (arith, to_below s c.in-Some.group _ c.in-Some.ensures.steps j h, few, c.requires.0)
 
 pub loop-group-preserved-then-group-block : goal.loop-group-preserved-then-group-block
 loop-group-preserved-then-group-block c =

@@ -16,11 +16,11 @@ write_by_rows-requires c =
     let count = graph_episodes _ l.words.now l.episodes l.to_words l.passes in (
       least_pause (content_of l.words.now),
       graph_of l.words.now,
-      fair_groups _ _ (λ a f o asked. search rules) (λ a r f f' o o' called. search rules) _ c.requires.0 c.requires.1,
+      fair_groups _ _ (λ a f o asked. search rules) (λ a r f f' o o' called. search rules) _ c.requires.0,
       count,
       omega (arith, count, episodes_few l.words.now),
       links_small l.words.now (passes_passed l.words.now l.episodes l.to_words c.requires.0 l.passes),
-      c.requires.2,
+      c.requires.1,
     )
 
 pub returns : goal.returns
@@ -28,5 +28,5 @@ returns c =
     let l = c.args.log in
     let count = graph_episodes _ l.words.now l.episodes l.to_words l.passes in
     c.write_by_rows.ensures (least_pause (content_of l.words.now)) (graph_of l.words.now)
-    (fair_groups _ _ (λ a f o asked. search rules) (λ a r f f' o o' called. search rules) _ c.requires.0 c.requires.1)
-    count c.requires.2
+    (fair_groups _ _ (λ a f o asked. search rules) (λ a r f f' o o' called. search rules) _ c.requires.0)
+    count c.requires.1

@@ -5,7 +5,7 @@ use Rattle.writing.proofs.Listing.{listing_none, listing_more, listing_same}
 use Rattle.copying.specs.Copying.{marked_at, pause_at}
 use Rattle.copying.proofs.Groups.{is_marked, not_marked, marked_room, group_links_lem, group_no_links}
 use Rattle.copying.proofs.write_group.Goals as goal
-use Rattle.copying.proofs.write_group.Goals.{then-mark-ne0, else-mark-ne0}
+use Rattle.copying.proofs.write_group.Goals.{in-Some, in_default}
 
 pub loop-b-init : goal.loop-b-init
 loop-b-init c =
@@ -23,17 +23,18 @@ loop-b-preserved c =
     let a = c.args in
     let at = c.loop-b in
     let row = a.row.now in
-    elim c.if-mark-ne0.branch [
-      | then-mark-ne0 p ↦
-          let marked = is_marked row at.b (λ e. omega (arith, p.if-mark-ne0.true)) in
-          let more = marked_room row a.a at.b (omega arith) (λ e. omega (arith, p.if-mark-ne0.true)) in
-          rw (p.links-is, p.out-is, p.word.ensures)
+    elim c.match-checked_sub.branch [
+      | in-Some p ↦
+          let marked = is_marked row at.b (λ e. omega (arith, p.in-Some.ensures)) in
+          let more = marked_room row a.a at.b (omega arith) (λ e. omega (arith, p.in-Some.ensures)) in
+          let pause = p.in-Some.ensures.1 in
+          rw (p.links-is, p.out-is, p.word.ensures, pause)
           (listing_more (marked_at row) (λ b. to_word b (pause_at row b)) a.out.now at.out (length row) at.links at.b at.invariant (omega arith)
           (omega (arith, at.invariant.size)) marked)
-      | else-mark-ne0 p ↦
+      | in_default p ↦
           rw (p.links-is, p.out-is)
           (listing_same (marked_at row) (λ b. to_word b (pause_at row b)) a.out.now at.out (length row) at.links at.b at.invariant (omega arith)
-          (not_marked row at.b (omega (arith, p.if-mark-ne0.false))))
+          (not_marked row at.b (omega (arith, p.in_default.ensures))))
     ]
 
 pub returns-then-links-ne0 : goal.returns-then-links-ne0

@@ -5,17 +5,14 @@ use mathlib.Core.List.{List}
 use Prim.Native.Nat.{ℕ}
 use native.Mathlib.Omega.{arith}
 use lib.ListN.{length}
-use lib.Seq.{length-take-le}
 use Rattle.std.proofs.lemmas.Result.{err_from_is_err_and}
 use Rattle.logs.specs.Log.{content_of}
 use Rattle.logs.proofs.Laws.{few_episodes}
-use Rattle.copying.specs.FairCopy.{fair_need, fair_words}
+use Rattle.copying.specs.FairCopy.{fair_words}
 use Rattle.copying.proofs.FairCopies.{copy_fits}
 use Rattle.writing.specs.Layout.{BeginsWith}
-use Rattle.report.specs.Report.{work_words}
-use Rattle.report.proofs.Asked.{asked_given}
 use Rattle.report.proofs.Calls.{work_cleared}
-use Rattle.fair_copy.proofs.CopyCalls.{copy_refused, copy_left}
+use Rattle.fair_copy.proofs.CopyCalls.{copy_refused, copy_passed, copy_left}
 use Rattle.fair_copy.proofs.fair_copy_within.Goals as goal
 
 pub returns-in_err-log : goal.returns-in_err-log
@@ -24,34 +21,26 @@ returns-in_err-log c =
     let p = err_from_is_err_and c.from_residual.result c.from_residual.ensures.1 in
     rw (p.1, p.2) (copy_refused a.most a.log.now a.out.now a.work.now c.in_err-log.field-0.0 (sym c.in_err-log.ensures.answer))
 
-pub slice_bounds-copy-end : goal.slice_bounds-copy-end
-slice_bounds-copy-end c =
-    let a = c.args in
-    let l = c.in_ok-log.log in
-    let passed = asked_given a.most (λ j u. fair_need u) a.log.now (length a.out.now) (length a.work.now) l.episodes l.to_words (sym c.in_ok-log.ensures.answer) in
-    omega (arith, passed.2)
+pub unwrap-requires : goal.unwrap-requires
+unwrap-requires c = c.first_chunk_mut.ensures.variant.1 (copy_passed _ _ c.in_ok-log.ensures.answer).2
 
 pub copy-requires : goal.copy-requires
 copy-requires c =
     let a = c.args in
     let l = c.in_ok-log.log in
-    let passed = asked_given a.most (λ j u. fair_need u) a.log.now (length a.out.now) (length a.work.now) l.episodes l.to_words (sym c.in_ok-log.ensures.answer) in
-    let (read, output, work) = passed in
+    let (read, output, work) = copy_passed _ _ c.in_ok-log.ensures.answer in
     let few = few_episodes a.most a.log.now l.episodes l.to_words read in
     let fits = copy_fits a.most a.log.now l.episodes l.to_words read in (
       omega (arith, c.requires),
       rw c.in_ok-log.ensures.same (omega arith),
-      length-take-le work_words a.work.now work,
     )
 
 pub returns : goal.returns
 returns c =
     let a = c.args in
     let l = c.in_ok-log.log in
-    let asked = sym c.in_ok-log.ensures.answer in
-    let passed = asked_given a.most (λ j u. fair_need u) a.log.now (length a.out.now) (length a.work.now) l.episodes l.to_words asked in
     let done = subst
     (λ (v : List ℕ). (c.copy.result ≡ length (fair_words (content_of v))) × BeginsWith (fair_words (content_of v)) a.out.now c.copy.new.out)
     c.in_ok-log.ensures.same (c.copy.ensures.0, c.copy.ensures.1) in
-    copy_left a.most a.log.now a.out.now a.work.now l.episodes l.to_words asked c.copy.new.out done.0 done.1
-    (work_cleared a.work.now c.copy.new.work passed.2 c.copy.ensures.2)
+    copy_left a.most a.log.now a.out.now a.work.now l.episodes l.to_words (sym c.in_ok-log.ensures.answer) c.copy.new.out done.0 done.1
+    (work_cleared a.work.now c.copy.new.work c.copy.ensures.2)

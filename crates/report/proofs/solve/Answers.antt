@@ -3,4 +3,4 @@ use Rattle.logs.specs.Log.{graph_of}
 use Rattle.report.proofs.solve.Goals as goal
 
 pub returns : goal.returns
-returns c = (c.answer-outcome.ensures (graph_of c.args.log.words.now) c.prepare.ensures, rw (c.answer-outcome.auto.w, c.prepare.array_long) at c.clear.ensures)
+returns c = (c.answer-outcome.ensures (graph_of c.args.log.words.now) c.prepare.ensures, cc)

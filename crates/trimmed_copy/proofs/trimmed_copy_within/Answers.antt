@@ -5,15 +5,12 @@ use mathlib.Core.List.{List}
 use Prim.Native.Nat.{ℕ}
 use native.Mathlib.Omega.{arith}
 use lib.ListN.{length}
-use lib.Seq.{length-take-le}
 use Rattle.std.proofs.lemmas.Result.{err_from_is_err_and}
 use Rattle.logs.specs.Log.{graph_of}
 use Rattle.logs.proofs.Laws.{few_episodes}
-use Rattle.copying.specs.FairCopy.{fair_need}
-use Rattle.report.specs.Report.{work_words}
-use Rattle.report.proofs.Asked.{asked_given}
 use Rattle.report.proofs.Calls.{work_cleared}
 use Rattle.trimmed_copy.specs.Answering.{Room, TrimAnswered}
+use Rattle.fair_copy.proofs.CopyCalls.{copy_passed}
 use Rattle.trimmed_copy.proofs.TrimCalls.{enough, trim_refused, trim_left}
 use Rattle.trimmed_copy.proofs.trimmed_copy_within.Goals as goal
 
@@ -23,32 +20,24 @@ returns-in_err-log c =
     let p = err_from_is_err_and c.from_residual.result c.from_residual.ensures.1 in
     rw (p.1, p.2) (trim_refused a.most a.log.now a.out.now a.work.now c.in_err-log.field-0.0 (sym c.in_err-log.ensures.answer))
 
-pub slice_bounds-solve-end : goal.slice_bounds-solve-end
-slice_bounds-solve-end c =
-    let a = c.args in
-    let l = c.in_ok-log.log in
-    let passed = asked_given a.most (λ j u. fair_need u) a.log.now (length a.out.now) (length a.work.now) l.episodes l.to_words (sym c.in_ok-log.ensures.answer) in
-    omega (arith, passed.2)
+pub unwrap-requires : goal.unwrap-requires
+unwrap-requires c = c.first_chunk_mut.ensures.variant.1 (copy_passed _ _ c.in_ok-log.ensures.answer).2
 
 pub solve-requires : goal.solve-requires
 solve-requires c =
     let a = c.args in
     let l = c.in_ok-log.log in
-    let passed = asked_given a.most (λ j u. fair_need u) a.log.now (length a.out.now) (length a.work.now) l.episodes l.to_words (sym c.in_ok-log.ensures.answer) in
-    let (read, output, work) = passed in
+    let (read, output, work) = copy_passed _ _ c.in_ok-log.ensures.answer in
     let few = few_episodes a.most a.log.now l.episodes l.to_words read in (
       omega (arith, c.requires),
       subst (λ (v : List ℕ). Room (graph_of v) (length a.out.now)) (sym c.in_ok-log.ensures.same)
           (enough a.most a.log.now l.episodes l.to_words _ read output),
-      length-take-le work_words a.work.now work,
     )
 
 pub returns : goal.returns
 returns c =
     let a = c.args in
     let l = c.in_ok-log.log in
-    let asked = sym c.in_ok-log.ensures.answer in
-    let passed = asked_given a.most (λ j u. fair_need u) a.log.now (length a.out.now) (length a.work.now) l.episodes l.to_words asked in
-    trim_left a.most a.log.now a.out.now a.work.now l.episodes l.to_words asked c.solve.new.out c.solve.result
+    trim_left a.most a.log.now a.out.now a.work.now l.episodes l.to_words (sym c.in_ok-log.ensures.answer) c.solve.new.out c.solve.result
     (subst (λ (v : List ℕ). TrimAnswered (graph_of v) a.out.now c.solve.new.out c.solve.result) c.in_ok-log.ensures.same c.solve.ensures.0)
-    (work_cleared a.work.now c.solve.new.w passed.2 c.solve.ensures.1)
+    (work_cleared a.work.now c.solve.new.w c.solve.ensures.1)
