@@ -100,15 +100,6 @@ module _ {pause : ℕ → ℕ → ℕ} {g : Graph} {o o' : List ℕ} {words link
               (begins_part (get_or o 0 0 ∷ groups pause g a) o o' s.begins (group a (pause a) bs) p words (omega (arith, s.size)) (rw (← count) at part)));
         }
 
-  pub copying_all : (n : ℕ) → g.n ≡ n → n ≤ a → GroupsWritten pause g o o' words links
-  copying_all n e h =
-      let all : a ≡ g.n = omega (arith, s.item) in
-      record {
-        count = rw all at s.size;
-        link_count = rw all at s.count;
-        begins = subst (λ (k : ℕ). BeginsWith (get_or o 0 0 ∷ groups pause g k) o o') all s.begins;
-      }
-
 -- the head and the end are written
 module _ (pause : ℕ → ℕ → ℕ) (g : Graph) (o o' : List ℕ) (words links : ℕ) (h : length (copy_words pause g) ≤ length o) (s : GroupsWritten pause g o o' words links) where
   pub end_room : words < length o'

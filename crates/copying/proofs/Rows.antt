@@ -1,18 +1,19 @@
 -- The rows of a block of episodes: their marks, group by group of the log, and the links that are marked in a row.
 use mathlib.Core.Path.{◌≡◌, refl, ap, sym, subst, ◌∙◌}
-use mathlib.Core.Logic.{◌≢◌, ◌⊎◌, ⊎_elim}
+use mathlib.Core.Logic.{◌≢◌}
 use mathlib.Core.Bool.{Bool, true, false, not, true≢false}
 use mathlib.Core.List.Memᴰ.{head as here}
 use mathlib.Core.List.Memᴰ.{not-nil}
 use mathlib.Core.List.{List, [], ◌∷◌, ◌++◌, map, append-nil, append_assoc, map-append, Memᴰ as Mem}
-use Prim.Native.Nat.{ℕ, zero, suc, ◌+◌, ◌-◌, ◌/◌, ◌%◌, ◌≤◌, ◌<◌, ◌^◌}
+use Prim.Native.Nat.{ℕ, suc, ◌+◌, ◌-◌, ◌/◌, ◌%◌, ◌≤◌, ◌<◌, ◌^◌}
 use native.Mathlib.Decide.{ℕ_discrete}
 use native.Mathlib.Numerals.{add-one}
 use native.Mathlib.Omega.{arith}
 use lib.Dec.{eqb}
-use lib.ListN.{length, get_or, set, take, drop, replicate, length-set, length-drop, length-replicate, get_or-replicate}
-use lib.Seq.{take-suc, length-take-le, get_or-take, get_or-drop, get_or-set_same, get_or-set_other}
+use lib.ListN.{length, get_or, take, drop, replicate, length-drop, length-replicate, get_or-replicate}
+use lib.Seq.{take-suc, length-take-le, get_or-take, get_or-drop}
 use borrow.Author.Tests.{ne_eqb}
+use Rattle.std.proofs.lemmas.List.{get_or_past}
 use Rattle.order.specs.Order.{All}
 use Rattle.paths.proofs.Passing.{passing_equal}
 use Rattle.paths.specs.Links.{linked}
@@ -60,26 +61,6 @@ mark_short : (ps : List ℕ) → All (λ p. p < 2 ^ 12) ps → mark ps ≤ 2 ^ 1
 mark_short [] h = omega arith
 mark_short (p ∷ ps) h = h (least (p ∷ ps)) (least_mem p ps)
 
--- where there is none, or a higher one, the pause plus one is stored; another is kept
-lowered_less : (m p : ℕ) → (m ≡ 0) ⊎ (p + 1 < m) → p + 1 ≡ lowered m p
-lowered_less zero p h = omega arith
-lowered_less (suc m) p h = ⊎_elim (λ e. omega arith) (λ l. omega arith) h
-
-lowered_same : (m p : ℕ) → m ≢ 0 → m ≤ p + 1 → m ≡ lowered m p
-lowered_same zero p ne h = absurd (ne refl)
-lowered_same (suc m) p ne h = omega arith
-
-pub mark_stored : (w : List ℕ) (at p : ℕ) → at < length w → (get_or w at 0 ≡ 0) ⊎ (p + 1 < get_or w at 0) → Lowered at p w (set w at (p + 1))
-mark_stored w at p h lower =
-    record {
-      same_length = length-set w at (p + 1);
-      here = get_or-set_same w at (p + 1) 0 h ∙ lowered_less (get_or w at 0) p lower;
-      other = λ i ne. get_or-set_other w at i (p + 1) 0 ne;
-    }
-
-pub mark_kept : (w : List ℕ) (at p : ℕ) → get_or w at 0 ≢ 0 → get_or w at 0 ≤ p + 1 → Lowered at p w w
-mark_kept w at p some low = record { same_length = refl; here = lowered_same (get_or w at 0) p some low; other = λ i ne. refl }
-
 -- the pauses of the link from `a` to `b`, once `h` is heard
 pauses_here : (h : Heard) (hs : List Heard) → pauses_of h.from h.to (hs ++ h ∷ []) ≡ pauses_of h.from h.to hs ++ h.pause ∷ []
 pauses_here h hs =
@@ -95,9 +76,12 @@ abbrev content : ℕ → List Heard → Content
 content n hs = record { n = n; heard = hs }
 
 -- words that are zero mark no link
-marks_none : (block n : ℕ) (w : List ℕ) → w ≡ replicate (length w) 0 → n ≤ 256 → length w ≡ block_words → BlockMarks block (content n []) w
+marks_none : (block n : ℕ) (w : List ℕ) → w ≡ replicate (length w) 0 → BlockMarks block (content n []) w
 unfolding pauses_of
-marks_none block n w e few long a b h l = rw e (get_or-replicate (length w) (row_at a + b) 0 0 (omega arith))
+marks_none block n w zeros a b h l = rw zeros (zero (length w) (row_at a + b))
+  where
+    zero : (k i : ℕ) → get_or {A = ℕ} (replicate k 0) i 0 ≡ 0
+    zero k i = grind (arith, get_or-replicate, get_or_past, length-replicate)
 
 -- a link from an episode of the block is marked in its row
 marks_here : (block n : ℕ) (k : Heard) (hs : List Heard) (w w' : List ℕ) → n ≤ 256 → k.to < 256 → k.from / 64 ≡ block
@@ -152,39 +136,33 @@ group_passed block a ws w other = record { same_length = refl; marks = λ n hs f
         rw append_assoc at (none n vs (hs ++ told a v ∷ []) (marks_other block n (told a v) hs w other m))
 
 -- before the group at `s` the block marks the links of the words there
-pub record Marking (w w' : List ℕ) (block : ℕ) (s : Groups) : Type 0 where
-  pub same_length : length w' ≡ length w
-  pub marks : BlockMarks block (content s.log.episodes (heard_before s.log.words.now s.at)) w'
+pub record Marking (w : List ℕ) (block : ℕ) (s : Groups) : Type 0 where
+  pub marks : BlockMarks block (content s.log.episodes (heard_before s.log.words.now s.at)) w
 
-pub marking_start : (s : Groups) (w : List ℕ) (block : ℕ) → s.at ≡ 1 → s.log.episodes ≤ 256 → length w ≡ block_words → w ≡ replicate (length w) 0
-    → Marking w w block s
-marking_start s w block first few long zeros =
+pub marking_start : (s : Groups) (w : List ℕ) (block : ℕ) → s.at ≡ 1 → w ≡ replicate (length w) 0 → Marking w block s
+marking_start s w block first zeros =
     let within = s.here.within in
     let none : heard_before s.log.words.now s.at ≡ [] = ap (heard_before s.log.words.now) first ∙ before_head s.log.words.now (omega arith) in
-    record {
-      same_length = refl;
-      marks = subst (λ q. BlockMarks block (content s.log.episodes q) w) (sym none) (marks_none block s.log.episodes w zeros few long);
-    }
+    record { marks = subst (λ q. BlockMarks block (content s.log.episodes q) w) (sym none) (marks_none block s.log.episodes w zeros) }
 
-pub marking_on : {w w' w'' : List ℕ} {block : ℕ} {s : Groups} {g : Group} {t : Groups} → Marking w w' block s → s.log.episodes ≤ 256 → Given s g t
-    → GroupTaken block g.from g.to_words.now w' w'' → Marking w w'' block t
-marking_on {w'' = w''} {block} {s} {g} {t} m few d k =
+pub marking_on : {w w' : List ℕ} {block : ℕ} {s : Groups} {g : Group} {t : Groups} → Marking w block s → s.log.episodes ≤ 256 → Given s g t
+    → GroupTaken block g.from g.to_words.now w w' → Marking w' block t
+marking_on {w' = w'} {block} {s} {g} {t} m few d k =
     record {
-      same_length = k.same_length ∙ m.same_length;
       marks =
-          subst (λ (l : Log). BlockMarks block (content l.episodes (heard_before l.words.now t.at)) w'') (sym d.same)
-          (subst (λ q. BlockMarks block (content s.log.episodes q) w'') (sym (heard_group s g t d)) (k.marks s.log.episodes _ few m.marks));
+          subst (λ (l : Log). BlockMarks block (content l.episodes (heard_before l.words.now t.at)) w') (sym d.same)
+          (subst (λ q. BlockMarks block (content s.log.episodes q) w') (sym (heard_group s g t d)) (k.marks s.log.episodes _ few m.marks));
     }
 
 -- at the last word the block marks the links of the log
-pub marking_end : {w w' : List ℕ} {block : ℕ} (s : Groups) → Marking w w' block s → s.at + 1 ≡ length s.log.words.now
-    → BlockMarks block (content_of s.log.words.now) w'
-marking_end {w' = w'} {block} s m h =
+pub marking_end : {w : List ℕ} {block : ℕ} (s : Groups) → Marking w block s → s.at + 1 ≡ length s.log.words.now
+    → BlockMarks block (content_of s.log.words.now) w
+marking_end {w} {block} s m h =
     let l = s.log.words.now in
     let last : s.at ≡ length l - 1 = omega arith in
     let heard = ap (heard_before l) last ∙ heard_passed _ l s.log.episodes s.log.to_words s.log.passes in
     let n = graph_episodes _ l s.log.episodes s.log.to_words s.log.passes in
-    subst (λ (k : ℕ). BlockMarks block (content k (content_of l).heard) w') (sym n) (subst (λ q. BlockMarks block (content s.log.episodes q) w') heard m.marks)
+    subst (λ (k : ℕ). BlockMarks block (content k (content_of l).heard) w) (sym n) (subst (λ q. BlockMarks block (content s.log.episodes q) w) heard m.marks)
 
 -- the row holds the mark of each link from `a`
 abbrev Marks : ℕ → List Heard → List ℕ → Type 0
@@ -250,13 +228,6 @@ module _ (c : Content) (a n : ℕ) (w : List ℕ) (e : c.n ≡ n) (few : n ≤ 2
       → GroupWritten a (pause_at (row_of a n w)) (marked (row_of a n w) (length (row_of a n w))) o o' r
       → GroupWritten a (least_pause c a) (linked_to a (map joins c.heard) n) o o' r
   row_written o o' r d = record { count = d.count ∙ ap length row_marks; words = subst (λ (ws : List ℕ). BeginsWith ws o o') row_words d.words }
-
--- words that have been made zero
-pub cleared_block : (w w₁ : List ℕ) → length w ≡ block_words → w₁ ≡ replicate (length w) 0
-    → (length w₁ ≡ block_words) × (w₁ ≡ replicate (length w₁) 0)
-cleared_block w w₁ long e =
-    let same : length w₁ ≡ length w = ap length e ∙ length-replicate (length w) 0 in
-    (same ∙ long, rw same e)
 
 -- the block of `a` is that of the next episode too, unless that one is the first of its block
 pub next_block : (a : ℕ) (c : Content) (w : List ℕ) → BlockMarks (a / 64) c w → (a + 1) % 64 ≢ 0 → BlockMarks ((a + 1) / 64) c w

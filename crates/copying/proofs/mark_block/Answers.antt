@@ -16,8 +16,7 @@ loop-group-init c =
       tt,
       tt,
       log,
-      marking_start c.into_iter-group-iterator.result c.args.w.now c.args.block (ap (λ (s : Groups). s.at) same ∙ first.1)
-          (omega (arith, ap (λ (l : Log). l.episodes) log, c.requires.0)) c.told-w c.requires.1,
+      marking_start c.into_iter-group-iterator.result c.args.w.now c.args.block (ap (λ (s : Groups). s.at) same ∙ first.1) c.requires.1,
     )
 
 pub mark_group-requires : goal.mark_group-requires

@@ -7,4 +7,4 @@ use Rattle.copying.proofs.mark_block.Given as goal
 abbrev pub invariant-loop-group : goal.invariant-loop-group
 invariant-loop-group l =
     (goal.iterator-loop-group).can_next l.group-iterator × (goal.iterator-loop-group).is_finite l.group-iterator × (l.group-iterator.log ≡ l.log)
-    × Marking l.initial.w l.w l.block l.group-iterator
+    × Marking l.w l.block l.group-iterator
