@@ -1,17 +1,31 @@
 // Logs of full size: 200 episodes, and 4,096 to words or one more.
 ghost use Rattle.std.specs.Prelude.{◌≤◌};
 
-use crate::show::{Service, links, outcome, reading};
+use crate::show::{Asked, Service, Trial};
 use logs::Kind;
 use std::io;
 
+// What is asked of each log.
+const EACH: [Asked; 5] = [
+    Asked::Reading,
+    Asked::Links,
+    Asked::Outcome(Service::Report),
+    Asked::Outcome(Service::FairCopy),
+    Asked::Outcome(Service::TrimmedCopy),
+];
+
+// The trial of a log.
+fn trial(rt: &impl Print, asked: Asked, name: &str, words: &[u32]) -> io::Result<()> {
+    let name = name.as_bytes();
+    Trial { asked, name, words }.make(rt)
+}
+
 // The trials of a log.
 fn trials(rt: &impl Print, name: &str, log: &[u32]) -> io::Result<()> {
-    reading(rt, name, log)?;
-    links(rt, name, log)?;
-    outcome(rt, Service::Report, name, log)?;
-    outcome(rt, Service::FairCopy, name, log)?;
-    outcome(rt, Service::TrimmedCopy, name, log)
+    for asked in EACH {
+        trial(rt, asked, name, log)?;
+    }
+    Ok(())
 }
 
 // The trials of a log of `n` words: the head, a from word of episode 0, the words that `word_at` gives for each place behind it, and the
@@ -50,7 +64,8 @@ pub fn last_too_large(rt: &impl Print) -> io::Result<()> {
     words[1] = Kind::From.word(0);
     words[4098] = Kind::To.word(200);
     words[4099] = Kind::End.word(4097);
-    reading(rt, "4,097 to words, the last 200 of 200", &words)
+    let name = "4,097 to words, the last 200 of 200";
+    trial(rt, Asked::Reading, name, &words)
 }
 
 // Groups of two words, 0 to 1 again and again: the to words stand at 2, 4 and so on, the 4,096th at 8,192, the 4,097th at 8,194.

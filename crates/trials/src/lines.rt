@@ -1,23 +1,31 @@
 // The trials of the file stdin, a line for each: its parts, and the call that it asks for.
+ghost use Rattle.std.specs.Prelude.{◌≡◌, ◌≢◌, ◌<◌, ◌++◌, ◌∷◌, All, IfSome, MatchOption};
+
 use crate::show::{Asked, Call, Service, Trial};
 use std::io;
 
 // The value of a hexadecimal digit, 0 to 9 or A to F.
-fn digit_of(b: u8) -> Option<u32> {
+fn digit_of(b: u8) -> Option<usize>
+    ensures { IfSome result (λ digit. digit < 16) }
+{
     match b {
-        b'0'..=b'9' => Some((b - b'0') as u32),
-        b'A'..=b'F' => Some((b - b'A') as u32 + 10),
+        b'0'..=b'9' => Some((b - b'0') as usize),
+        b'A'..=b'F' => Some((b - b'A') as usize + 10),
         _ => None,
     }
 }
 
-// The number that the decimal digits are. There is none where the text is empty, another byte is among them, or a usize cannot hold it.
-fn decimal(text: &str) -> Option<usize> {
-    // A sign may stand before the digits that `parse` takes.
-    if text.starts_with('+') {
+// The number that the digits are in a base. There is none where there are no digits, another byte is among them, or a usize cannot hold it.
+fn number(base: usize, digits: &[u8]) -> Option<usize> {
+    if digits.is_empty() {
         return None;
     }
-    text.parse().ok()
+    let mut value: usize = 0;
+    for b in digits {
+        let digit = digit_of(*b).filter(|digit| *digit < base)?;
+        value = value.checked_mul(base)?.checked_add(digit)?;
+    }
+    Some(value)
 }
 
 // The word that a space and 8 hexadecimal digits are.
@@ -28,11 +36,7 @@ fn word_of(text: &[u8]) -> Option<u32> {
     if digits.len() != 8 {
         return None;
     }
-    let mut word = 0;
-    for b in digits {
-        word = word << 4 | digit_of(*b)?;
-    }
-    Some(word)
+    u32::try_from(number(16, digits)?).ok()
 }
 
 // The words that the text is, which stand in `room` then. There are none where it is not in this form, or has more words than there is
@@ -45,14 +49,22 @@ fn words_of<'a>(text: &[u8], room: &'a mut [u32]) -> Option<&'a [u32]> {
     Some(words)
 }
 
-// The number before the first space, and what stands behind it.
-fn number_before(text: &str) -> Option<(usize, &str)> {
-    let (digits, rest) = text.split_once(' ')?;
-    Some((decimal(digits)?, rest))
+// What stands before the first byte `b`, and what stands behind it.
+fn split_once(text: &[u8], b: u8) -> Option<(&[u8], &[u8])>
+    ensures { MatchOption result (All (λ x. x ≢ b) text.now) (λ parts. (text.now ≡ parts.0.now ++ b ∷ parts.1.now) × All (λ x. x ≢ b) parts.0.now) }
+{
+    let at = text.iter().position(|x| *x == b)?;
+    Some((&text[..at], &text[at + 1..]))
+}
+
+// The decimal number before the first space, and what stands behind it.
+fn number_before(text: &[u8]) -> Option<(usize, &[u8])> {
+    let (digits, rest) = split_once(text, b' ')?;
+    Some((number(10, digits)?, rest))
 }
 
 // The call of a service whose lent words and name are `text`: LENT WORK NAME.
-fn call(service: Service, text: &str) -> Option<(Asked, &str)> {
+fn call(service: Service, text: &[u8]) -> Option<(Asked, &[u8])> {
     let (lent, rest) = number_before(text)?;
     let (work, name) = number_before(rest)?;
     if 64 < lent || 16400 < work {
@@ -67,15 +79,15 @@ fn call(service: Service, text: &str) -> Option<(Asked, &str)> {
 }
 
 // What is asked before the colon of a line, and the name behind it.
-fn asked_by(head: &str) -> Option<(Asked, &str)> {
-    let (word, rest) = head.split_once(' ')?;
+fn asked_by(head: &[u8]) -> Option<(Asked, &[u8])> {
+    let (word, rest) = split_once(head, b' ')?;
     match word {
-        "read" => Some((Asked::Reading, rest)),
-        "links" => Some((Asked::Links, rest)),
-        "report" => call(Service::Report, rest),
-        "copy" => call(Service::FairCopy, rest),
-        "trim" => call(Service::TrimmedCopy, rest),
-        "thread" => {
+        b"read" => Some((Asked::Reading, rest)),
+        b"links" => Some((Asked::Links, rest)),
+        b"report" => call(Service::Report, rest),
+        b"copy" => call(Service::FairCopy, rest),
+        b"trim" => call(Service::TrimmedCopy, rest),
+        b"thread" => {
             let (i, name) = number_before(rest)?;
             Some((Asked::Thread(i), name))
         }
@@ -84,9 +96,9 @@ fn asked_by(head: &str) -> Option<(Asked, &str)> {
 }
 
 // The trial that a line is, with its words in `room`.
-fn trial<'a>(line: &'a str, room: &'a mut [u32]) -> Option<Trial<'a>> {
-    let (head, text) = line.split_once(':')?;
-    let words = words_of(text.as_bytes(), room)?;
+fn trial<'a>(line: &'a [u8], room: &'a mut [u32]) -> Option<Trial<'a>> {
+    let (head, text) = split_once(line, b':')?;
+    let words = words_of(text, room)?;
     let (asked, name) = asked_by(head)?;
     if name.is_empty() {
         return None;
@@ -95,20 +107,24 @@ fn trial<'a>(line: &'a str, room: &'a mut [u32]) -> Option<Trial<'a>> {
 }
 
 // Makes the trial of a line, or says that it is none; passes over blank lines and comments.
-fn one(rt: &impl Print, line: &str) -> io::Result<()> {
-    if line.is_empty() || line.starts_with('#') {
+fn one(rt: &impl Print, line: &[u8]) -> io::Result<()> {
+    if matches!(line, [] | [b'#', ..]) {
         return Ok(());
     }
     let mut room = [0u32; 64];
     match trial(line, &mut room) {
         Some(trial) => trial.make(rt),
-        None => println!(rt; "not a trial: {line}"),
+        None => {
+            print!(rt; "not a trial: ")?;
+            rt.write_all(line)?;
+            println!(rt)
+        }
     }
 }
 
 // Makes the trials of all lines.
-pub fn all(rt: &impl Print, text: &str) -> io::Result<()> {
-    for line in text.split('\n') {
+pub fn all(rt: &impl Print, text: &[u8]) -> io::Result<()> {
+    for line in text.split(|b| *b == b'\n') {
         one(rt, line)?;
     }
     Ok(())

@@ -12,10 +12,7 @@ use std::io;
 fn main(rt: HostRuntime) -> io::Result<()> {
     let mut buffer = [0u8; 65536];
     let count = input::read_all(&mut rt.stdin(), &mut buffer)?;
-    match str::from_utf8(&buffer[..count]) {
-        Ok(text) => lines::all(&rt, text)?,
-        Err(_) => println!(rt; "stdin is no text")?,
-    }
+    lines::all(&rt, &buffer[..count])?;
     if count == buffer.len() {
         println!(rt; "stdin is too long")?;
     }

@@ -1,12 +1,13 @@
 // The calls that are tried, and what each answers, as a line.
 ghost use Rattle.std.specs.Prelude.{◌≤◌};
+ghost use Rattle.trials.specs.declared.show.TheConstants.{REPORT_WORDS};
 
 use logs::{Reading, Reason, Refusal};
 use report::{Outcome, WORK_WORDS};
 use std::{fmt, io};
 
 // The services that write to a lent output.
-#[derive(Clone, Copy)]
+#[derive(Clone, Copy, PartialEq, Eq)]
 pub enum Service {
     Report,
     FairCopy,
@@ -40,48 +41,69 @@ pub enum Asked {
     Links,
     Thread(usize),
     Call(Call),
+    // The outcome alone, with buffers that are enough for every log.
+    Outcome(Service),
 }
 
-// What is asked for of some words, with a name for the line of the answer.
+// The start of the line, before the name.
+impl fmt::Display for Asked {
+    fn fmt<W: fmt::Write>(&self, f: &mut fmt::Formatter<W>) -> fmt::Result {
+        match self {
+            Asked::Reading => Ok(()),
+            Asked::Links => f.write_str("links of "),
+            Asked::Thread(i) => write!(f, "thread {i} of "),
+            Asked::Call(call) => write!(f, "{} ", call.service),
+            Asked::Outcome(service) => write!(f, "{service} "),
+        }
+    }
+}
+
+// What is asked for of some words, with a name for the line of the answer, whose bytes need be no text.
 #[derive(Clone, Copy)]
 pub struct Trial<'a> {
     pub asked: Asked,
-    pub name: &'a str,
+    pub name: &'a [u8],
     pub words: &'a [u32],
 }
 
 impl Trial<'_> {
     // Makes the call, and prints the line of its answer.
     pub fn make(self, rt: &impl Print) -> io::Result<()> {
-        let name = self.name;
+        print!(rt; "{}", self.asked)?;
+        rt.write_all(self.name)?;
+        print!(rt; ": ")?;
+        self.answer(rt)?;
+        println!(rt)
+    }
+
+    // Makes the call, and prints its answer.
+    fn answer(self, rt: &impl Print) -> io::Result<()> {
         let words = self.words;
         match self.asked {
-            Asked::Reading => reading(rt, name, words),
-            Asked::Links => links(rt, name, words),
-            Asked::Thread(i) => {
-                let thread = Thread { report: words, i };
-                println!(rt; "thread {i} of {name}: {thread}")
-            }
-            Asked::Call(call) => call.make(rt, name, words),
+            Asked::Reading => reading(rt, words),
+            Asked::Links => links(rt, words),
+            Asked::Thread(i) => print!(rt; "{}", Thread { report: words, i }),
+            Asked::Call(call) => call.make(rt, words),
+            Asked::Outcome(service) => outcome(rt, service, words),
         }
     }
 }
 
 // The answer of the reading.
-pub fn reading(rt: &impl Print, name: &str, words: &[u32]) -> io::Result<()> {
+fn reading(rt: &impl Print, words: &[u32]) -> io::Result<()> {
     match logs::read(words) {
         Ok(Reading { episodes, to_words }) => {
-            println!(rt; "{name}: episodes {episodes} to words {to_words}")
+            print!(rt; "episodes {episodes} to words {to_words}")
         }
-        Err(refusal) => println!(rt; "{name}: {refusal}"),
+        Err(refusal) => print!(rt; "{refusal}"),
     }
 }
 
 // The link count.
-pub fn links(rt: &impl Print, name: &str, words: &[u32]) -> io::Result<()> {
+fn links(rt: &impl Print, words: &[u32]) -> io::Result<()> {
     match link_count::link_count(words) {
-        Ok(links) => println!(rt; "links of {name}: links {links}"),
-        Err(refusal) => println!(rt; "links of {name}: {refusal}"),
+        Ok(links) => print!(rt; "links {links}"),
+        Err(refusal) => print!(rt; "{refusal}"),
     }
 }
 
@@ -202,7 +224,7 @@ fn write_outcome(
             let written = Written::first(out, count);
             print!(rt; "{written}")?;
             write_cleared(rt, scratch)?;
-            if let Service::Report = service {
+            if service == Service::Report {
                 write_threads(rt, written.words)?;
             }
             Ok(())
@@ -222,7 +244,7 @@ fn write_outcome(
 
 impl Call {
     // What the call answers and leaves, of 64 output words and 16,400 work words. Before it all hold the mark.
-    fn make(self, rt: &impl Print, name: &str, log: &[u32]) -> io::Result<()> {
+    fn make(self, rt: &impl Print, log: &[u32]) -> io::Result<()> {
         let service = self.service;
         let mut out = [MARK; 64];
         let mut scratch = [MARK; 16400];
@@ -232,32 +254,33 @@ impl Call {
             &mut out[..self.lent],
             &mut scratch[..self.work],
         );
-        print!(rt; "{service} {name}: ")?;
-        write_outcome(rt, service, outcome, &out, &scratch)?;
-        println!(rt)
+        write_outcome(rt, service, outcome, &out, &scratch)
     }
 }
 
-// The output words that are just enough for every log: for 200 episodes, or for 4,096 to words.
+// The output words that are just enough for a report on 200 episodes.
+const REPORT_WORDS: usize = 10502;
+
+// The output words that are just enough for a copy: those of the longest log that passes.
+const COPY_WORDS: usize = input::MOST_BYTES / 4;
+
+// The output words that are just enough for every log.
 fn enough(service: Service) -> usize
-    ensures { result ≤ 10502 }
+    ensures { result ≤ REPORT_WORDS }
 {
     match service {
-        Service::Report => 10502,
-        Service::FairCopy => 8194,
-        Service::TrimmedCopy => 8194,
+        Service::Report => REPORT_WORDS,
+        Service::FairCopy | Service::TrimmedCopy => COPY_WORDS,
     }
 }
 
 // The outcome of a call alone, of a log of any size.
-pub fn outcome(rt: &impl Print, service: Service, name: &str, log: &[u32]) -> io::Result<()> {
-    let mut out = [MARK; 10502];
+fn outcome(rt: &impl Print, service: Service, log: &[u32]) -> io::Result<()> {
+    let mut out = [MARK; REPORT_WORDS];
     let mut work = [MARK; WORK_WORDS];
     match ask(service, log, &mut out[..enough(service)], &mut work) {
-        Outcome::Report(count) => println!(rt; "{service} {name}: count {count}"),
-        Outcome::Loop(length) => println!(rt; "{service} {name}: {}", Reason::Loop.at(length)),
-        Outcome::Refused(number, place) => {
-            println!(rt; "{service} {name}: refused {number} at {place}")
-        }
+        Outcome::Report(count) => print!(rt; "count {count}"),
+        Outcome::Loop(length) => print!(rt; "{}", Reason::Loop.at(length)),
+        Outcome::Refused(number, place) => print!(rt; "refused {number} at {place}"),
     }
 }
