@@ -9,7 +9,7 @@ use Rattle.searching.specs.Items.{Tables, SeenFrom, Trail, Extended, Flipping, F
 module _ {m : ℕ} {R : ℕ → ℕ → Type 0} {dead : ℕ → ℕ} {t₀ t : Tables} {tail b : ℕ} (p : ℕ) where
   -- the item from which `b` was seen
   seen_from : Flipping m R dead t₀ t tail b → t₀.via b ≡ p + 1 → (p < tail) × R (t₀.queue p) b
-  seen_from f v = let (q, ql, u, r) = f.from in let e : q ≡ p = omega arith in (omega arith, rw e at r)
+  seen_from f v = grind (arith, common_steps)
 
   -- and it has the item behind it that it had
   as_before : Flipping m R dead t₀ t tail b → t₀.via b ≡ p + 1 → t.next (t₀.queue p) ≡ t₀.next (t₀.queue p)
@@ -65,13 +65,7 @@ module _ {m : ℕ} {R : ℕ → ℕ → Type 0} {dead : ℕ → ℕ} {t₀ t : T
         old = f.there (t₀.queue p) c low cl h
 
         other : (x y : ℕ) → x < m → y < m → t'.next x ≡ y + 1 → y ≢ c
-        other x y xl yl i e = go' (pair x y xl yl i)
-          where
-            go' : ((x ≡ t₀.queue p) × (y ≡ b)) ⊎ ((x ≢ t₀.queue p) × (t.next x ≡ y + 1)) → ⊥
-            go' (inl (j, n)) = old.0 (omega arith)
-            go' (inr (j, n)) =
-                let g : t.prev c ≡ x + 1 = rw e at (f.there x y xl yl n).1 in
-                j (omega (arith, old.1))
+        other x y xl yl i e = grind (arith, common_steps, pair x y xl yl i, old)
 
         go : (dead c ≢ 1) × SeenFrom R t₀ p c → Flipping m R dead t₀ t' tail c × (t₀.via c < t₀.via b)
         go (n, (q, ql, u, r)) = (

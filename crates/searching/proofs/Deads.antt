@@ -1,7 +1,7 @@
 -- What is dead: what searches have seen in vain, and through which no later search succeeds. At first that is nothing; a search in vain adds
 -- what it has seen, a chain fewer changes nothing of it, and after the last item it is what an exhausted search shows.
 use Rattle.std.proofs.lemmas.Grind.{common_steps}
-use mathlib.Core.Path.{◌≡◌, sym, subst, ◌∙◌}
+use mathlib.Core.Path.{◌≡◌, sym, ◌∙◌}
 use mathlib.Core.Logic.{inl, inr, ⊎_elim, ◌≢◌}
 use Prim.Native.Nat.{ℕ, zero, suc, ◌+◌, ◌≤◌, ◌<◌}
 use native.Mathlib.Decide.{ℕ_discrete}
@@ -79,8 +79,7 @@ module _ {m : ℕ} {R : ℕ → ℕ → Type 0} {t : Tables} {dead : ℕ → ℕ
         }
       where
         end : (y b : ℕ) → y < m → b < m → y < a + 1 → t.next y ≡ 0 → R y b → Dec (y ≡ a) → t.seen b ≡ 1
-        end y b yl bl l e r (yes i) = s.shown 0 b pos bl (subst (λ (z : ℕ). R z b) (i ∙ sym q) r)
-        end y b yl bl l e r (no n) = s.old b bl (x.closed y b yl bl (inl (omega arith, e)) r)
+        end y b yl bl l e r d = grind (arith, common_steps)
 
         next : (y b c : ℕ) → y < m → b < m → c < m → t.next y ≡ c + 1 → t.seen c ≡ 1 → R y b → t.seen b ≡ 1
         next y b c yl bl cl e sc r = grind (arith, common_steps)

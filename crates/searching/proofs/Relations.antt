@@ -1,6 +1,6 @@
 -- Another relation for the same search: what a search has found in one relation on the items holds in one that has the same pairs there.
 use Rattle.std.proofs.lemmas.Grind.{common_steps}
-use mathlib.Core.Path.{◌≡◌, refl, ◌∙◌}
+use mathlib.Core.Path.{◌≡◌, refl}
 use mathlib.Core.Logic.{◌≢◌}
 use Prim.Native.Nat.{ℕ, ◌<◌}
 use native.Mathlib.Omega.{arith}
@@ -74,8 +74,7 @@ pub chains_none : {m : ℕ} {t : Tables} → SameChains m t t
 chains_none = record { next_same = λ a al. refl; prev_same = λ b bl. refl }
 
 pub links_then : {m : ℕ} {t t' t'' : Tables} → SameChains m t t' → SameChains m t' t'' → SameChains m t t''
-links_then f g =
-    record { next_same = λ a al. g.next_same a al ∙ f.next_same a al; prev_same = λ b bl. g.prev_same b bl ∙ f.prev_same b bl }
+links_then f g = grind (arith, common_steps)
 
 -- one chain fewer than in tables with the same chains
 pub shrunk_from : {m : ℕ} {R : ℕ → ℕ → Type 0} {t t₀ t' : Tables} → SameChains m t t₀ → Shrunk m R t₀ t' → Shrunk m R t t'

@@ -99,10 +99,10 @@ module _ {m : ℕ} {R : ℕ → ℕ → Type 0} {dead : ℕ → ℕ} {t : Tables
       }
     where
       low : t'.queue tail < m
-      low = let e = w.queue_last pos in let h = k.prev_le b bl in omega arith
+      low = grind (arith, common_steps)
 
       behind : t.next (t'.queue tail) ≡ b + 1
-      behind = let e = w.queue_last pos in k.back (t'.queue tail) b low bl (omega arith)
+      behind = grind (arith, common_steps)
 
       -- the new item was not in the queue: the one behind it was not seen
       fresh : (p : ℕ) → p < tail → t.queue p ≡ t'.queue tail → ⊥
@@ -117,25 +117,18 @@ module _ {m : ℕ} {R : ℕ → ℕ → Type 0} {dead : ℕ → ℕ} {t : Tables
           go : Dec (p ≡ tail) → Dec (q ≡ tail) → p ≡ q
           go (yes i) (yes j) = omega arith
           go (yes i) (no j) =
-              let l : q < tail = omega arith in
-              let f = w.queue_same q l in
-              absurd (fresh q l (cc))
+              let f = w.queue_same q (omega arith) in
+              absurd (fresh q (omega arith) (cc))
           go (no i) (yes j) =
-              let l : p < tail = omega arith in
-              let f = w.queue_same p l in
-              absurd (fresh p l (cc))
-          go (no i) (no j) =
-              let l : p < tail = omega arith in
-              let l' : q < tail = omega arith in
-              let f = w.queue_same p l in
-              let f' = w.queue_same q l' in
-              s.different p q l l' (cc)
+              let f = w.queue_same p (omega arith) in
+              absurd (fresh p (omega arith) (cc))
+          go (no i) (no j) = grind (arith, common_steps)
 
       not_new : (c : ℕ) → t.seen c ≡ 1 → c ≢ b
       not_new c h e = let f : t.seen b ≡ 1 = rw e at h in omega arith
 
       stays : (c : ℕ) → c < m → t.seen c ≡ 1 → t'.seen c ≡ 1
-      stays c cl h = let e = w.seen_other c cl (not_new c h) in omega arith
+      stays c cl h = grind (arith, common_steps)
 
       opened : (p : ℕ) → p < tail + 1 → Dec (p ≡ tail)
           → ((p ≡ 0) × (t'.next (t'.queue p) ≡ 0))
@@ -155,11 +148,7 @@ module _ {m : ℕ} {R : ℕ → ℕ → Type 0} {dead : ℕ → ℕ} {t : Tables
 
       all_open : (a c : ℕ) → a < m → c < m → t'.next a ≡ c + 1 → t'.seen c ≡ 1 → dead c ≢ 1 → Dec (c ≡ b)
           → (p : ℕ) × (p < tail + 1) × (t'.queue p ≡ a)
-      all_open a c al cl g sc n (yes f) =
-          let e = w.next_same a al in
-          let h : t.prev b ≡ a + 1 = k.there a b al bl (omega arith) in
-          let l = w.queue_last pos in
-          (tail, omega arith, omega arith)
+      all_open a c al cl g sc n (yes f) = grind (arith, common_steps)
       all_open a c al cl g sc n (no nf) =
           let e = w.next_same a al in
           let f = w.seen_other c cl nf in
@@ -195,9 +184,7 @@ module _ {m : ℕ} {R : ℕ → ℕ → Type 0} {dead : ℕ → ℕ} {t : Tables
       }
     where
       go : (p b : ℕ) → p < head + 1 → b < m → R (t.queue p) b → Dec (p ≡ head) → Dec (b < from) → t.seen b ≡ 1
-      go p b h bl r (no ne) d = s.shown p b (omega arith) bl r
-      go p b h bl r (yes e) (yes l) = s.showing b l bl (rw e at r)
-      go p b h bl r (yes e) (no nl) = gap b (omega arith) bl (rw e at r)
+      go p b h bl r e l = grind (arith, common_steps)
 
   -- an item that the search comes upon, with no item before it: the way back can be taken
   pub found : {t' : Tables} {b : ℕ} → Matching m t → Searching m R dead t head from tail → Saw m t t' head b tail → head < tail → b < m

@@ -32,7 +32,7 @@ module _ {lo hi : ℕ} {w w' : List ℕ} (le : via_at ≤ lo) (o : Outside lo hi
   matching_kept {m} h k = matching_same k (same_chains m h)
 
 pub sized_kept : {w w' : List ℕ} {base m : ℕ} → length w' ≡ length w → Sized w base m → Sized w' base m
-sized_kept e s = record { long = omega (arith, s.long); matrix = s.matrix; items = s.items }
+sized_kept e s = grind (arith, common_steps)
 
 module _ {w w' : List ℕ} {base m lo hi : ℕ} (s : Sized w base m) (le : next_at ≤ lo) (o : Outside lo hi w w') where
   pub forth : Within m (Pairs base w) (Pairs base w')
