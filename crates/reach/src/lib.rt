@@ -1,4 +1,4 @@
-// Who has a way to whom: the links of a log as a matrix of bits, and its closure.
+// Who has a way to whom: the links of a log as a matrix of bits, and its closure. The steps take the words of both matrices alone.
 #![tactic(auto)]
 
 ghost use Rattle.std.specs.Prelude.{◌≡◌, true, false, ◌+◌, ◌*◌, ◌<◌, ◌≤◌, IfSome, length};

@@ -33,9 +33,6 @@ module _ {w f : List ℕ} (s : IsFirstChunk w f next_at) where
   pub word_front : (i : ℕ) → i < next_at → get_or f i 0 ≡ get_or w i 0
   word_front i h = rw s.same (get_or-take next_at w i 0 h)
 
-  matrix_front : (base : ℕ) {R : ℕ → ℕ → Type 0} → base + matrix_words ≤ next_at → Matrix base w R → Matrix base f R
-  matrix_front base h = matrix_same base base (λ i l. word_front (base + i) (omega arith))
-
   -- and `f'` takes its place
   module _ {lo hi : ℕ} (f' : List ℕ) (o : Outside lo hi f f') where
     many : length f' ≡ next_at
@@ -62,5 +59,7 @@ module _ {w f : List ℕ} (s : IsFirstChunk w f next_at) where
   rising_all {f'} r =
       record {
         outside = outside_all f' r.outside;
-        ways = λ g ends e rise l. matrix_all f' r.outside ways_at (omega arith) (r.ways g ends e rise (matrix_front links_at (omega arith) l));
+        ways = λ g ends e rise l.
+            matrix_all f' r.outside ways_at (omega arith)
+            (r.ways g ends e rise (matrix_same links_at links_at (λ i h. word_front (links_at + i) (omega arith)) l));
       }

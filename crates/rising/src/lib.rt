@@ -1,4 +1,4 @@
-// The ways of links that rise: from the last episode to the first.
+// The ways of links that rise: from the last episode to the first. The steps take the words of the links and the ways alone.
 #![tactic(auto)]
 
 ghost use Rattle.std.specs.Prelude.{◌≡◌, ℕ, ◌+◌, ◌*◌, ◌<◌, ◌≤◌, length};
