@@ -37,8 +37,8 @@ pub fn report(rt: &impl Print, episodes: usize, links: usize, report: &[u32]) ->
     Ok(())
 }
 
-// Refusal 13, and the loop, whose episodes are the steps of the words.
-pub fn cycle(rt: &impl Print, length: usize, words: &[u32]) -> io::Result<()> {
-    println!(rt; "{}", Reason::Loop.at(length))?;
-    line(rt, "loop", Kind::Step, words)
+// Refusal 13 at the length of a loop, and its episodes, which the steps are.
+pub fn cycle(rt: &impl Print, steps: &[u32]) -> io::Result<()> {
+    println!(rt; "{}", Reason::Loop.at(steps.len()))?;
+    line(rt, "loop", Kind::Step, steps)
 }

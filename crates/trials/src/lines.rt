@@ -9,8 +9,8 @@ fn digit_of(b: u8) -> Option<usize>
     ensures { IfSome result (λ digit. digit < 16) }
 {
     match b {
-        b'0'..=b'9' => Some((b - b'0') as usize),
-        b'A'..=b'F' => Some((b - b'A') as usize + 10),
+        b'0'..=b'9' => Some(usize::from(b - b'0')),
+        b'A'..=b'F' => Some(usize::from(b - b'A') + 10),
         _ => None,
     }
 }
