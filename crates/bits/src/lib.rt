@@ -121,6 +121,7 @@ fn first_from<F: Fn(usize) -> u32>(word_of: F, from: usize) -> Option<usize>
     ensures first { (bits : ℕ → ℕ) → ((i x : ℕ) → i < 8 → F.post word_of i x → WordOf bits i x) → FirstFrom bits from (place_or_end result) }
     ensures below { IfSome result (λ b. b < 256) }
 {
+    // By hand, since a turn goes from any bit of a word to the first bit of the next word.
     let mut at = from;
     while at < 256 {
         let i = at / 32;

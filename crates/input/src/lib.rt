@@ -58,6 +58,7 @@ pub fn read_all<R: Read>(reader: &mut R, buffer: &mut [u8]) -> io::Result<usize>
     ensures bytes { IfOk result (λ n. Consumes (R.remaining reader.old) (R.remaining reader.new) (take n buffer.new)) }
     ensures end { IfOk result (λ n. n < length buffer.new → IsAtEnd (R.remaining reader.new)) }
 {
+    // By hand, since only the reader tells how far a read went.
     let mut done = 0;
     while done < buffer.len() {
         let more = reader.read(&mut buffer[done..])?;

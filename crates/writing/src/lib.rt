@@ -95,6 +95,7 @@ impl Chains<'_> {
             × ((g : Graph) → Solved g self.now.episodes self.now.words.now → (p : List ℕ) → Thread g (c ∷ p) → length p ≤ length out.old) }
         ensures { PathWritten self.now.words.now out.old out.new self.now.episodes c b result }
     {
+        // A step is taken before it is asked whether that was the last.
         let mut at = c;
         let mut count = 0;
         loop {
