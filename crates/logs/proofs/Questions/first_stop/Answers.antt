@@ -1,5 +1,5 @@
 use native.Mathlib.Omega.{arith}
-use mathlib.Core.Path.{◌∙◌, sym, ap}
+use mathlib.Core.Path.{◌∙◌, ap}
 use Prim.Native.Nat.{◌+◌, ◌-◌}
 use Rattle.logs.proofs.Groups.{from_episode, from_given_up, to_given_up, at_last}
 use Rattle.logs.proofs.Hearing.{heard_none, heard_from, next_link, heard_on, heard_behind}
@@ -32,13 +32,13 @@ pub log-preserved : goal.log-preserved
 log-preserved g c =
     let at = c.loop-to in
     heard_behind _ g.H.Hear.takes g.H.Hear.row_of _ _ _ at.at (c.log.others + 1) _ at.invariant.0 c.requires.2 c.requires.1 _ c.to_word.ensures _ c.in-Ok-to_word.is
-    (g.H.Hear.heard c.hear.new.self) c.hear.ensures (omega arith) (sym c.to_before_last.ensures ∙ c.if-not-to_before_last.true)
+    (g.H.Hear.heard c.hear.new.self) c.hear.ensures (omega arith) (cc (c.to_before_last.ensures, c.if-not-to_before_last.true))
 
 pub loop-to-preserved : goal.loop-to-preserved
 loop-to-preserved g c =
     let at = c.loop-to in (
       heard_on _ g.H.Hear.takes g.H.Hear.row_of _ _ _ at.at (c.log.others + 1) _ at.invariant.0 c.requires.2 c.requires.1 _ c.to_word.ensures _ c.in-Ok-to_word.is
-          (g.H.Hear.heard c.hear.new.self) c.hear.ensures (omega arith) (sym c.to_before_last.ensures ∙ c.if-not-to_before_last.false),
+          (g.H.Hear.heard c.hear.new.self) c.hear.ensures (omega arith) (cc (c.to_before_last.ensures, c.if-not-to_before_last.false)),
       omega arith,
     )
 
