@@ -313,15 +313,15 @@ impl<'a> Questions<'a> {
         Ok(LogWord::To(self.to_word(at, w, count)?))
     }
 
-    // Questions 4 to 10, of the word at `at` behind the head.
+    // Questions 4 to 10, of the word at `at` behind the head. Behind the log stands no word: what is asked there is a last word, 0.
     pub fn log_word(self, at: usize, from: bool, count: usize) -> Result<LogWord, Refusal>
-        requires { at < length self.log.now }
         ensures { word_answer result ≡ log_word_at self.entry.most self.entry.log.now self.entry.n at from count }
     {
-        if at + 1 < self.log.len() {
+        if at < self.log.len().saturating_sub(1) {
             self.group_word(at, from, count)
         } else {
-            Ok(LogWord::End(end_word(self.log[at], at, count)?))
+            let w = self.log.get(at).copied().unwrap_or(0);
+            Ok(LogWord::End(end_word(w, at, count)?))
         }
     }
 
@@ -359,10 +359,8 @@ impl<'a> Questions<'a> {
                 }
             }
         };
-        Stop {
-            place,
-            count: place - others,
-        }
+        let count = place - others;
+        Stop { place, count }
     }
 }
 
