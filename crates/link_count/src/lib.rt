@@ -1,22 +1,21 @@
 // The link count of a log: how many different links it has.
 #![tactic(auto)]
 
-ghost use Rattle.std.specs.Prelude.{◌≡◌, ℕ, ◌+◌, ◌*◌, ◌/◌, ◌<◌, ◌≤◌, length};
+ghost use Rattle.std.specs.Prelude.{◌≡◌, ℕ, ◌+◌, ◌*◌, ◌/◌, ◌<◌, ◌≤◌, eqb, length};
 ghost use Rattle.logs.specs.Log.{service};
 ghost use Rattle.bits.specs.Bits.{bit, BitSet};
 ghost use Rattle.link_count.specs.Counted.{Counted, count_answer, count_asked};
 
 use logs::{Ceilings, Hear, Refusal};
 
-// Marks the link to episode `to` in the row of its from word, which starts at word `row`; gives 1, or 0 where it was marked before.
-#[tactic(auto, using(bits::proofs::Rows::bit_lt))]
-fn mark(seen: &mut [u32], row: usize, to: usize) -> usize
+// Marks the link to episode `to` in the row of its from word, which starts at word `row`; says whether it was marked before.
+fn mark(seen: &mut [u32], row: usize, to: usize) -> bool
     requires { row + to / 32 < length seen.old }
-    ensures { BitSet seen.old seen.new row to × (result + bit seen.old row to ≡ 1) }
+    ensures { BitSet seen.old seen.new row to × (result ≡ eqb (bit seen.old row to) 1) }
 {
     let before = bits::bit_at(seen, row, to);
     bits::set_bit(seen, row, to);
-    usize::from(!before)
+    before
 }
 
 // Counts the different links that it hears. Each is marked in `seen`, a row of bits for each episode, and counted where it was not marked before.
@@ -41,7 +40,7 @@ impl<'a> Hear for Counter<'a> {
     }
 
     fn hear(&mut self, row: usize, to: usize) {
-        self.links += mark(self.seen, row, to);
+        self.links += usize::from(!mark(self.seen, row, to));
     }
 }
 
