@@ -104,10 +104,6 @@ marks_other : (block n : ℕ) (k : Heard) (hs : List Heard) (w : List ℕ) → k
     → BlockMarks block (content n (hs ++ k ∷ [])) w
 marks_other block n k hs w ne m a b h l = rw (pauses_other a b k hs (λ q. ne (omega (arith, q.0)))) (m a b h l)
 
--- before the first to word of a group nothing is marked of it
-pub group_first : (block a : ℕ) (ws w : List ℕ) → GroupTaken block a (take 0 ws) w w
-group_first block a ws w = record { same_length = refl; marks = λ n hs few m. rw append-nil m }
-
 -- one link more behind others
 told_more : (a i : ℕ) (ws : List ℕ) (hs : List Heard) → i < length ws
     → hs ++ map (told a) (take (i + 1) ws) ≡ hs ++ map (told a) (take i ws) ++ told a (get_or ws i 0) ∷ []

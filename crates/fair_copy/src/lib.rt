@@ -25,6 +25,7 @@ fn copy(log: Log, out: &mut [u32], work: &mut [u32; WORK_WORDS]) -> usize
 }
 
 // Questions 1 to 12 of a copy of a log, at a caller's ceilings, with so many words lent.
+#[tactic(auto, using(report::proofs::Asked::asked_read, report::proofs::Asked::asked_denied, logs::proofs::Laws::words_small))]
 pub fn copy_asked(
     most: Ceilings,
     words: &[u32],

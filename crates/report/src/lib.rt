@@ -56,6 +56,7 @@ pub fn lent(need: usize, output: usize, work: usize) -> Result<(), Refusal>
 }
 
 // Questions 1 to 12 of a report on a log, at a caller's ceilings.
+#[tactic(auto, using(crate::proofs::Asked::asked_read, crate::proofs::Asked::asked_denied, logs::proofs::Laws::few_episodes))]
 fn report_asked(
     most: Ceilings,
     words: &[u32],

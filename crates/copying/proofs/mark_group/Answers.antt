@@ -1,8 +1,5 @@
-use Rattle.copying.proofs.Rows.{group_first, group_more}
+use Rattle.copying.proofs.Rows.{group_more}
 use Rattle.copying.proofs.mark_group.Goals as goal
-
-pub loop-word-init : goal.loop-word-init
-loop-word-init c = let g = c.args.group in group_first _ g.from g.to_words.now c.args.w.now
 
 pub loop-word-preserved : goal.loop-word-preserved
 loop-word-preserved c =

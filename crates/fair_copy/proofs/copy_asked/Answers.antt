@@ -8,24 +8,6 @@ use Rattle.copying.specs.FairCopy.{fair_need}
 use Rattle.report.proofs.Asked.{asked_read, asked_denied}
 use Rattle.fair_copy.proofs.copy_asked.Goals as goal
 
-pub returns-in_err-log-clause-answer : goal.returns-in_err-log-clause-answer
-returns-in_err-log-clause-answer c =
-    let a = c.args in
-    let p = err_from_is_err_and c.from_residual.result c.from_residual.ensures.1 in
-    let r = c.in_err-log.field-0.0 in
-    rw (p.1, p.2)
-    (sym (asked_denied a.most (λ j u. fair_need u) a.words.now a.output a.work (reason_number r.reason) r.place (sym c.in_err-log.ensures.answer)))
-
-pub overflow_mul-log : goal.overflow_mul-log
-overflow_mul-log c =
-    let l = c.in_ok-log.log in
-    omega (arith, words_small c.args.most c.args.words.now l.episodes l.to_words (sym c.in_ok-log.ensures.answer))
-
-pub overflow_add-log : goal.overflow_add-log
-overflow_add-log c =
-    let l = c.in_ok-log.log in
-    omega (arith, words_small c.args.most c.args.words.now l.episodes l.to_words (sym c.in_ok-log.ensures.answer))
-
 pub returns-in_err-lent-clause-answer : goal.returns-in_err-lent-clause-answer
 returns-in_err-lent-clause-answer c =
     let a = c.args in

@@ -8,18 +8,6 @@ use Rattle.writing.specs.Layout.{report_need}
 use Rattle.report.proofs.Asked.{asked_read, asked_denied}
 use Rattle.report.proofs.report_asked.Goals as goal
 
-pub returns-in_err-log-clause-answer : goal.returns-in_err-log-clause-answer
-returns-in_err-log-clause-answer c =
-    let p = err_from_is_err_and c.from_residual.result c.from_residual.ensures.1 in
-    let r = c.in_err-log.field-0.0 in
-    rw (p.1, p.2)
-    (sym (asked_denied c.args.most (λ j u. report_need j) c.args.words.now c.args.output c.args.work (reason_number r.reason) r.place (sym c.in_err-log.ensures.answer)))
-
-pub report_need-requires : goal.report_need-requires
-report_need-requires c =
-    let l = c.in_ok-log.log in
-    omega (arith, few_episodes c.args.most c.args.words.now l.episodes l.to_words (sym c.in_ok-log.ensures.answer), c.requires)
-
 pub returns-in_err-lent-clause-answer : goal.returns-in_err-lent-clause-answer
 returns-in_err-lent-clause-answer c =
     let p = err_from_is_err_and c.from_residual-in_err-lent.result c.from_residual-in_err-lent.ensures.1 in
