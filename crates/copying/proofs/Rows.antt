@@ -133,21 +133,26 @@ group_passed block a ws w other = record { same_length = refl; marks = λ n hs f
 
 -- before the group at `s` the block marks the links of the words there
 pub record Marking (w : List ℕ) (block : ℕ) (s : Groups) : Type 0 where
+  pub few : s.log.episodes ≤ 256
   pub marks : BlockMarks block (content s.log.episodes (heard_before s.log.words.now s.at)) w
 
-pub marking_start : (s : Groups) (w : List ℕ) (block : ℕ) → s.at ≡ 1 → w ≡ replicate (length w) 0 → Marking w block s
-marking_start s w block first zeros =
+pub marking_start : (s : Groups) (w : List ℕ) (block : ℕ) → s.at ≡ 1 → s.log.episodes ≤ 256 → w ≡ replicate (length w) 0 → Marking w block s
+marking_start s w block first few zeros =
     let within = s.here.within in
     let none : heard_before s.log.words.now s.at ≡ [] = ap (heard_before s.log.words.now) first ∙ before_head s.log.words.now (omega arith) in
-    record { marks = subst (λ q. BlockMarks block (content s.log.episodes q) w) (sym none) (marks_none block s.log.episodes w zeros) }
-
-pub marking_on : {w w' : List ℕ} {block : ℕ} {s : Groups} {g : Group} {t : Groups} → Marking w block s → s.log.episodes ≤ 256 → Given s g t
-    → GroupTaken block g.from g.to_words.now w w' → Marking w' block t
-marking_on {w' = w'} {block} {s} {g} {t} m few d k =
     record {
+      few = few;
+      marks = subst (λ q. BlockMarks block (content s.log.episodes q) w) (sym none) (marks_none block s.log.episodes w zeros);
+    }
+
+pub marking_on : {w w' : List ℕ} {block : ℕ} {s : Groups} {g : Group} {t : Groups} → Marking w block s → Given s g t
+    → GroupTaken block g.from g.to_words.now w w' → Marking w' block t
+marking_on {w' = w'} {block} {s} {g} {t} m d k =
+    record {
+      few = rw d.same m.few;
       marks =
           subst (λ (l : Log). BlockMarks block (content l.episodes (heard_before l.words.now t.at)) w') (sym d.same)
-          (subst (λ q. BlockMarks block (content s.log.episodes q) w') (sym (heard_group s g t d)) (k.marks s.log.episodes _ few m.marks));
+          (subst (λ q. BlockMarks block (content s.log.episodes q) w') (sym (heard_group s g t d)) (k.marks s.log.episodes _ m.few m.marks));
     }
 
 -- at the last word the block marks the links of the log

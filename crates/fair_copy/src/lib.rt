@@ -41,6 +41,7 @@ pub fn copy_asked(
 }
 
 // The fair copy at a caller's ceilings.
+#[tactic(auto, using(crate::proofs::CopyCalls::copy_refused, crate::proofs::CopyCalls::copy_passed))]
 fn fair_copy_within(
     most: Ceilings,
     log: &[u32],

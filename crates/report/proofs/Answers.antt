@@ -6,7 +6,6 @@ use native.Mathlib.Omega.{arith}
 use lib.ListN.{length}
 use Rattle.paths.specs.Graph.{Graph, Way, Acyclic, Loop}
 use Rattle.paths.proofs.Theorems.{different_below}
-use Rattle.paths.proofs.Ways.{way_first}
 use Rattle.bits.specs.Bits.{bit}
 use Rattle.bits.specs.Work.{ways_at, seen_at}
 use Rattle.bits.proofs.Rows.{bit_lt}
@@ -82,10 +81,6 @@ module _ {g : Graph} {n v : ℕ} {w : List ℕ} (ready : Ready g n w) (first : F
     loop_sought d =
         let (l, starts) = d.of g n looping in
         (d.loop, record { loop = l; smallest_first = rw starts (loop_least none_before l) }, sym d.size, d.words)
-
-  -- none is found, and there is none
-  pub none_sought : v ≡ n → Acyclic g
-  none_sought e u way = none_before u (let h : u < g.n = way_first ready.ends way in omega (arith, ready.count)) way
 
 -- every loop fits the words of a report
 pub loop_room : {g : Graph} {n k : ℕ} {w : List ℕ} → Ready g n w → report_need n ≤ k → (c : List ℕ) → Loop g c → length c + 1 ≤ k

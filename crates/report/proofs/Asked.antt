@@ -3,10 +3,10 @@
 use mathlib.Core.Path.{◌≡◌, refl, sym, ap, ◌∙◌}
 use mathlib.Core.Bool.{Bool, true, false, not, ◌||◌}
 use mathlib.Core.List.{List, [], ◌∷◌}
-use Prim.Native.Nat.{ℕ, ◌+◌, ◌≤◌, ◌<◌}
+use Prim.Native.Nat.{ℕ, ◌+◌, ◌≤◌}
 use native.Mathlib.Omega.{arith}
 use lib.Dec.{leb, ltb, eqb}
-use borrow.Author.Tests.{le-leb, lt-leb, leb-true}
+use borrow.Author.Tests.{le-leb, leb-true}
 use Rattle.logs.specs.Words.{kind, number}
 use Rattle.logs.specs.Answer.{Answer, given, refused, question, and_then}
 use Rattle.logs.specs.Log.{is_from, is_to, to_before_last, figure, minutes, head_word, group_word, end_word, counted, onwards, questions}
@@ -52,13 +52,6 @@ pub asked_denied : (m : Ceilings) (need : ℕ → ℕ → ℕ) (l : List ℕ) (o
     → asked m need l out work ≡ refused q p
 unfolding asked
 asked_denied m need l out work q p e = rw (e, asked)
-
-module _ (m : Ceilings) (need : ℕ → ℕ → ℕ) (l : List ℕ) (out work n t : ℕ) (e : questions m l ≡ given (n, t)) where
-  pub asked_short_output : out < need n t → asked m need l out work ≡ refused 11 (need n t)
-  asked_short_output h = asked_read m need l out work n t e ∙ rw (lt-leb (need n t) out h)
-
-  pub asked_short_work : need n t ≤ out → work < work_words → asked m need l out work ≡ refused 12 work_words
-  asked_short_work h k = asked_read m need l out work n t e ∙ rw (le-leb (need n t) out h, lt-leb work_words work k)
 
 -- the number of a refusal, and 0 of what is given
 abbrev number_of : {A : Type 0} → Answer A → ℕ

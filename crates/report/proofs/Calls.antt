@@ -5,7 +5,7 @@ use Prim.Native.Nat.{ℕ, ◌≤◌, ◌<◌}
 use native.Mathlib.Omega.{arith}
 use lib.ListN.{length, drop, replicate}
 use Rattle.logs.specs.Answer.{given, refused}
-use Rattle.logs.specs.Log.{questions, graph_of, PassedLog, PassesWith}
+use Rattle.logs.specs.Log.{questions, graph_of, PassesWith}
 use Rattle.logs.specs.declared.Ceilings.{Ceilings}
 use Rattle.logs.proofs.Laws.{few_episodes, graph_episodes, links_below}
 use Rattle.bits.specs.Work.{used_words}
@@ -32,9 +32,6 @@ module _ (m : Ceilings) (l o w : List ℕ) (n t : ℕ) (e : asked m (λ j u. rep
 
   pub passed_few : m.episodes < 256 → n < 256
   passed_few h = omega (arith, few_episodes m l n t passed.0)
-
-  pub passed_log : m.episodes < 256 → PassedLog l
-  passed_log h = (m, n, t, passed.0, omega (arith, passed_few h))
 
   passes : Passes m l (length o) (length w)
   passes =

@@ -116,6 +116,7 @@ fn solve(log: Log, out: &mut [u32], w: &mut [u32; WORK_WORDS]) -> Outcome
 }
 
 // The report at a caller's ceilings.
+#[tactic(auto, using(crate::proofs::Calls::passed, crate::proofs::Calls::left_denied))]
 fn report_within(most: Ceilings, log: &[u32], out: &mut [u32], work: &mut [u32]) -> Outcome
     requires { most.episodes < 256 }
     ensures { Left most log.now out.old work.old out.new work.new result }

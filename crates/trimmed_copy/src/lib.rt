@@ -37,6 +37,7 @@ fn solve(log: Log, out: &mut [u32], w: &mut [u32; WORK_WORDS]) -> Result<usize, 
 }
 
 // The trimmed copy at a caller's ceilings.
+#[tactic(auto, using(crate::proofs::TrimCalls::trim_refused, fair_copy::proofs::CopyCalls::copy_passed))]
 fn trimmed_copy_within(
     most: Ceilings,
     log: &[u32],

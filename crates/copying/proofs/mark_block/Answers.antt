@@ -16,31 +16,28 @@ loop-group-init c =
       tt,
       tt,
       log,
-      marking_start c.into_iter-group-iterator.result c.args.w.now c.args.block (ap (λ (s : Groups). s.at) same ∙ first.1) c.requires.1,
+      marking_start c.into_iter-group-iterator.result c.args.w.now c.args.block (ap (λ (s : Groups). s.at) same ∙ first.1)
+          (omega (arith, ap (λ (l : Log). l.episodes) log, c.requires.0)) c.requires.1,
     )
 
 pub mark_group-requires : goal.mark_group-requires
 mark_group-requires c =
     let s = c.loop-group.group-iterator in
-    let few : _ = ap (λ (l : Log). l.episodes) c.loop-group.invariant.2 in
-    λ j h. omega (arith, to_below s c.in-Some.group _ c.in-Some.ensures.steps j h, few, c.requires.0)
+    λ j h. omega (arith, to_below s c.in-Some.group _ c.in-Some.ensures.steps j h, c.loop-group.invariant.3.few)
 
 pub loop-group-preserved-then-group-block : goal.loop-group-preserved-then-group-block
 loop-group-preserved-then-group-block c =
     let d = c.in-Some.ensures.steps in
-    let few : _ = ap (λ (l : Log). l.episodes) c.loop-group.invariant.2 in
-    (tt, tt, d.same ∙ c.loop-group.invariant.2, marking_on c.loop-group.invariant.3 (omega (arith, few, c.requires.0)) d (rw c.if-group-block.true at c.mark_group.ensures))
+    (tt, tt, d.same ∙ c.loop-group.invariant.2, marking_on c.loop-group.invariant.3 d (rw c.if-group-block.true at c.mark_group.ensures))
 
 pub loop-group-preserved : goal.loop-group-preserved
 loop-group-preserved c =
     let d = c.in-Some.ensures.steps in
-    let g = c.in-Some.group in
-    let few : _ = ap (λ (l : Log). l.episodes) c.loop-group.invariant.2 in (
+    let g = c.in-Some.group in (
       tt,
       tt,
       d.same ∙ c.loop-group.invariant.2,
-      marking_on c.loop-group.invariant.3 (omega (arith, few, c.requires.0)) d
-          (group_passed c.args.block g.from g.to_words.now c.loop-group.w c.if-group-block.false),
+      marking_on c.loop-group.invariant.3 d (group_passed c.args.block g.from g.to_words.now c.loop-group.w c.if-group-block.false),
     )
 
 pub returns : goal.returns

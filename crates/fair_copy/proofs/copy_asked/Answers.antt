@@ -1,11 +1,8 @@
 -- `fair_copy::copy_asked` meets its contract: questions 1 to 10 are the reading's, 11 and 12 those of the lent buffers. Assumes nothing.
 use mathlib.Core.Path.{sym, ◌∙◌}
-use native.Mathlib.Omega.{arith}
 use Rattle.std.proofs.lemmas.Result.{err_from_is_err_and}
-use Rattle.logs.specs.Answer.{reason_number}
-use Rattle.logs.proofs.Laws.{words_small}
 use Rattle.copying.specs.FairCopy.{fair_need}
-use Rattle.report.proofs.Asked.{asked_read, asked_denied}
+use Rattle.report.proofs.Asked.{asked_read}
 use Rattle.fair_copy.proofs.copy_asked.Goals as goal
 
 pub returns-in_err-lent-clause-answer : goal.returns-in_err-lent-clause-answer

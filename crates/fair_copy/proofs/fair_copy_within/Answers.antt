@@ -5,24 +5,14 @@ use mathlib.Core.List.{List}
 use Prim.Native.Nat.{ℕ}
 use native.Mathlib.Omega.{arith}
 use lib.ListN.{length}
-use Rattle.std.proofs.lemmas.Result.{err_from_is_err_and}
 use Rattle.logs.specs.Log.{content_of}
 use Rattle.logs.proofs.Laws.{few_episodes}
 use Rattle.copying.specs.FairCopy.{fair_words}
 use Rattle.copying.proofs.FairCopies.{copy_fits}
 use Rattle.writing.specs.Layout.{BeginsWith}
 use Rattle.report.proofs.Calls.{work_cleared}
-use Rattle.fair_copy.proofs.CopyCalls.{copy_refused, copy_passed, copy_left}
+use Rattle.fair_copy.proofs.CopyCalls.{copy_passed, copy_left}
 use Rattle.fair_copy.proofs.fair_copy_within.Goals as goal
-
-pub returns-in_err-log : goal.returns-in_err-log
-returns-in_err-log c =
-    let a = c.args in
-    let p = err_from_is_err_and c.from_residual.result c.from_residual.ensures.1 in
-    rw (p.1, p.2) (copy_refused a.most a.log.now a.out.now a.work.now c.in_err-log.field-0.0 (sym c.in_err-log.ensures.answer))
-
-pub unwrap-requires : goal.unwrap-requires
-unwrap-requires c = c.first_chunk_mut.ensures.variant.1 (copy_passed _ _ c.in_ok-log.ensures.answer).2
 
 pub copy-requires : goal.copy-requires
 copy-requires c =

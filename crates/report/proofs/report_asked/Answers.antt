@@ -1,11 +1,8 @@
 -- `report::report_asked` meets its contract: questions 1 to 10 are the reading's, 11 and 12 those of the lent buffers. Assumes nothing.
 use mathlib.Core.Path.{sym, ◌∙◌}
-use native.Mathlib.Omega.{arith}
 use Rattle.std.proofs.lemmas.Result.{err_from_is_err_and}
-use Rattle.logs.specs.Answer.{reason_number}
-use Rattle.logs.proofs.Laws.{few_episodes}
 use Rattle.writing.specs.Layout.{report_need}
-use Rattle.report.proofs.Asked.{asked_read, asked_denied}
+use Rattle.report.proofs.Asked.{asked_read}
 use Rattle.report.proofs.report_asked.Goals as goal
 
 pub returns-in_err-lent-clause-answer : goal.returns-in_err-lent-clause-answer
