@@ -335,6 +335,7 @@ impl<'a> Questions<'a> {
         let mut at = 1;
         // How many words before `at` are no to words: the head and the from words.
         let mut others = 1;
+        // Left by a label that carries the place, as the scope asks; an iterator has groups only of a log that has passed.
         let place = 'log: loop {
             if at == last {
                 break 'log at;

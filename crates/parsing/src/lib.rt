@@ -45,7 +45,7 @@ fn threads_end(report: &[u32], at: usize, k: usize) -> Option<usize>
     Some(place)
 }
 
-// The number of the first word, which is the width in a whole report, or 0 where there is no word.
+// The number of the first word, which is the width in a whole report, or 0 where there is no word; `is_whole` tells them apart.
 pub fn width(report: &[u32]) -> usize
     ensures { result ≡ number (get_or report.now 0 0) }
 {

@@ -101,6 +101,7 @@ pub fn first_loop(w: &[u32], n: usize) -> Option<usize>
     ensures first { FirstLoop w.now n (episode_or n result) }
     ensures below { IfSome result (λ v. v < n) }
 {
+    // `find` takes an instruction more for each episode.
     for v in 0..n {
         if bits::bit_at(w, WAYS + 8 * v, v) {
             return Some(v);

@@ -12,6 +12,7 @@ pub fn rises(w: &[u32], n: usize) -> bool
     requires { (next_at ≤ length w.now) × (n ≤ 256) }
     ensures { RiseTest w.now n result }
 {
+    // `all` would want lemmas on the list of a range, where this wants an invariant of one line.
     for a in 0..n {
         if let Some(b) = bits::first_bit(w, LINKS + 8 * a)
             && b <= a

@@ -25,7 +25,8 @@ pub fn put_behind(w: &mut [u32], a: usize, b: usize)
     w[PREV + b] = (a + 1) as u32;
 }
 
-// The item that the word at `place` of a table names: the word is the item plus one, or 0 for none.
+// The item that the word at `place` of a table names: the word is the item plus one, or 0 for none, since a table has one word for each
+// item.
 fn item_at(w: &[u32], place: usize) -> Option<usize>
     requires { place < length w.now }
     ensures { figure result ≡ get_or w.now place 0 }
@@ -91,6 +92,7 @@ pub fn search(w: &mut [u32], base: usize, m: usize, a: usize) -> Option<usize>
     ensures searched { SearchedIn w.old w.new base m a (unwrap_or result m) }
 {
     w[QUEUE] = a as u32;
+    // By hand, since the queue grows while it is gone through.
     let mut tail = 1;
     let mut head = 0;
     while head < tail {

@@ -24,7 +24,8 @@ fn answer(n: usize, out: &mut [u32], w: &mut [u32]) -> Result<usize, Refusal>
     Ok(trimming::write_trimmed(w, n, out))
 }
 
-// The trimmed copy or the loop of a log, in work words of which none is left as it was.
+// The trimmed copy or the loop of a log, in work words of which none is left as it was. As in `report`, with another answer: one function for both
+// would have the contract of `answer` for a closure.
 fn solve(log: Log, out: &mut [u32], w: &mut [u32; WORK_WORDS]) -> Result<usize, Refusal>
     requires { (log.episodes < 256) × Room (graph_of log.words.now) (length out.old) }
     ensures { TrimAnswered (graph_of log.entry.words.now) out.old out.new result
