@@ -1,18 +1,14 @@
 -- Passing over the words behind the head by groups: a from word, then its to words one by one.
 use mathlib.Core.Path.{◌≡◌, refl, ◌∙◌, sym, subst}
 use mathlib.Core.Logic.{⊎_elim}
-use mathlib.Core.Bool.{Bool, true, false, true≢false}
+use mathlib.Core.Bool.{true, false, true≢false}
 use mathlib.Core.List.{List}
-use Prim.Native.Nat.{ℕ, zero, suc, ◌+◌, ◌-◌, ◌≤◌, ◌<◌}
+use Prim.Native.Nat.{ℕ, zero, suc, ◌+◌, ◌≤◌, ◌<◌}
 use native.Mathlib.Decide.{ℕ_discrete}
 use native.Mathlib.Omega.{arith}
-use lib.ListN.{length, get_or, take, drop, length-drop}
-use Rattle.std.proofs.lemmas.List.{get_or-take, get_or-drop, length-take-le}
-use Rattle.std.proofs.lemmas.List.Sums.{prefix_len-le-length, prefix_len_passes, prefix_len_stops}
-use borrow.Author.Tests.{lt-ltb, eqb-false}
-use Rattle.std.specs.List.{prefix_len}
+use lib.ListN.{length, get_or}
 use Rattle.logs.specs.Words.{kind, number, to_episode}
-use Rattle.logs.specs.Log.{is_to, to_before_last, PassedLog, PassesWith}
+use Rattle.logs.specs.Log.{to_before_last, PassedLog, PassesWith}
 use Rattle.logs.specs.Groups.{heard_before, nearest_from, ToWords, Starts}
 use Rattle.logs.proofs.Asked.{to_there, there_to}
 use Rattle.logs.proofs.Laws.{from_word_below, to_word_below, pass_from, pass_to}
@@ -51,39 +47,6 @@ module _ (l : List ℕ) (start : ℕ) where
     pub nearest_same : 0 < start → nearest_from l p ≡ nearest_from l start
     nearest_same behind =
         along (λ q. nearest_from l q ≡ nearest_from l start) refl (λ q a inner k h. (pass_to l q (omega arith) (omega arith) k).1 ∙ h)
-
--- the words from `start` on and before the last
-abbrev pub words_from : List ℕ → ℕ → List ℕ
-words_from l start = take (length l - 1 - start) (drop start l)
-
--- `k` to words stand at the front of these
-module _ (l : List ℕ) (start k : ℕ) (inner : start < length l) (e : k ≡ prefix_len is_to (words_from l start)) where
-  count : length (words_from l start) ≡ length l - 1 - start
-  count = omega (arith, length-take-le (length l - 1 - start) (drop start l), length-drop start l)
-
-  word_of : (i : ℕ) → i < length l - 1 - start → get_or (words_from l start) i 0 ≡ get_or l (start + i) 0
-  word_of i h = rw (get_or-take, get_or-drop)
-
-  few : start + k < length l
-  few = omega (arith, prefix_len-le-length is_to (words_from l start), count)
-
-  pub leading_words : ToWords l start (start + k) × (to_before_last l (start + k) ≡ false)
-  leading_words = (record { start_before = omega arith; within = few; each = each }, end (to_before_last l (start + k)) refl)
-    where
-      each : (q : ℕ) → start ≤ q → q < start + k → to_before_last l q ≡ true
-      each q a b =
-          let its : start + (q - start) ≡ q = omega arith in
-          let inside : q - start < length l - 1 - start = omega (arith, few) in
-          let passes = prefix_len_passes is_to (words_from l start) (q - start) 0 (omega (arith, e)) in
-          rw (lt-ltb (q + 1) (length l) (omega (arith, few))) (rw (word_of (q - start) inside, its) at passes)
-
-      end : (b : Bool) → to_before_last l (start + k) ≡ b → to_before_last l (start + k) ≡ false
-      end false other = other
-      end true to =
-          let (inside, kind_to) = to_there l (start + k) to in
-          let before : k < length l - 1 - start = omega arith in
-          let stops = prefix_len_stops is_to (words_from l start) 0 (omega (arith, e, count)) in
-          absurd (eqb-false (kind (get_or l (start + k) 0)) 3 (rw (← e, word_of k before) at stops) kind_to)
 
 abbrev pub GroupHere : List ℕ → ℕ → Type 0
 GroupHere = Starts

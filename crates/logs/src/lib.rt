@@ -2,10 +2,9 @@
 #![tactic(auto)]
 
 ghost use Rattle.std.specs.Prelude.{◌≡◌, false, ℕ, ◌+◌, ◌^◌, ◌<◌, ◌≤◌, ltb, eqb, List, [], ◌∷◌, ◌++◌, length, get_or, drop, OnOk};
-ghost use Rattle.std.specs.List.{prefix_len};
 ghost use Rattle.logs.specs.Words.{kind, number, word, Small, to_episode, to_pause, to_word, kind_code};
 ghost use Rattle.logs.specs.Answer.{given, question, reason_number, result_answer, numbered, to_figures, word_answer, read_answer};
-ghost use Rattle.logs.specs.Log.{service, is_to, to_before_last, head_word, group_word, end_word, questions, graph_of};
+ghost use Rattle.logs.specs.Log.{service, to_before_last, head_word, group_word, end_word, questions, graph_of};
 ghost use Rattle.logs.specs.Places.{log_word_at, Stopped};
 ghost use Rattle.logs.specs.Groups.{ToWords, links_before};
 ghost use Rattle.logs.specs.Hear.{Next};
@@ -197,19 +196,18 @@ pub fn to_before_last(log: &[u32], at: usize) -> bool
     at != log.len() - 1 && Kind::To.is_of(w)
 }
 
-// How many to words stand at the front.
-fn leading_to_words(words: &[u32]) -> usize
-    ensures { result ≡ prefix_len is_to words.now }
-{
-    words.iter().take_while(|w| Kind::To.is_of(**w)).count()
-}
-
 // The place behind the to words that stand from `start` on.
 pub fn group_end(log: &[u32], start: usize) -> usize
     requires { start < length log.now }
     ensures { ToWords log.now start result × (to_before_last log.now result ≡ false) }
 {
-    start + leading_to_words(&log[start..log.len() - 1])
+    let last = log.len() - 1;
+    for (k, w) in log[start..last].iter().enumerate() {
+        if !Kind::To.is_of(*w) {
+            return start + k;
+        }
+    }
+    last
 }
 
 // Questions 9 and 10, of the last word, `w` at `at`: its number.

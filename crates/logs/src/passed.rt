@@ -5,7 +5,7 @@ ghost use Rattle.logs.specs.Answer.{result_answer};
 ghost use Rattle.logs.specs.Log.{questions, PassesWith};
 ghost use Rattle.logs.specs.Groups.{Starts};
 
-use crate::{Ceilings, Refusal, leading_to_words, number_of, read_within};
+use crate::{Ceilings, Refusal, group_end, number_of, read_within};
 
 // A log that passes questions 1 to 10: its words, and its counts of episodes and of to words.
 #[derive(Clone, Copy)]
@@ -67,16 +67,14 @@ impl<'a> Iterator for Groups<'a> {
     fn next(&mut self) -> Option<Group<'a>> {
         let words = self.log.words;
         let at = self.at;
-        let last = words.len() - 1;
-        if at == last {
+        if at == words.len() - 1 {
             return None;
         }
-        // Behind its from word stands a to word, and perhaps more.
-        let more = leading_to_words(&words[at + 2..last]);
-        self.at = at + 2 + more;
+        let end = group_end(words, at + 2);
+        self.at = end;
         Some(Group {
             from: number_of(words[at]),
-            to_words: &words[at + 1..][..1 + more],
+            to_words: &words[at + 1..end],
         })
     }
 }
