@@ -1,3 +1,4 @@
+use mathlib.Core.Path.{◌≡◌, ap, ◌∙◌}
 use native.Mathlib.Omega.{arith}
 use lib.ListN.{length}
 use Rattle.logs.specs.Words.{to_word}
@@ -27,8 +28,8 @@ loop-b-preserved c =
       | in-Some p ↦
           let marked = is_marked row at.b (λ e. omega (arith, p.in-Some.ensures)) in
           let more = marked_room row a.a at.b (omega arith) (λ e. omega (arith, p.in-Some.ensures)) in
-          let pause = p.in-Some.ensures.1 in
-          rw (p.links-is, p.out-is, p.word.ensures, pause)
+          let written : p.word.result ≡ to_word at.b (pause_at row at.b) = p.word.ensures ∙ ap (to_word at.b) p.in-Some.ensures.1 in
+          rw (p.links-is, p.out-is, written)
           (listing_more (marked_at row) (λ b. to_word b (pause_at row b)) a.out.now at.out (length row) at.links at.b at.invariant (omega arith)
           (omega (arith, at.invariant.size)) marked)
       | in_default p ↦
