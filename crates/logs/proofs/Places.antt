@@ -4,6 +4,8 @@ use mathlib.Core.Bool.{Bool, true, ◌||◌, or-true, or-false}
 use mathlib.Core.List.{List, ◌∷◌}
 use Prim.Native.Nat.{ℕ, ◌+◌, ◌<◌, ◌≤◌}
 use native.Mathlib.Numerals.{add-one}
+use native.Mathlib.Omega.{arith}
+use Rattle.std.proofs.lemmas.List.{get_or_past}
 use lib.ListN.{length, get_or, drop, drop_of_length-le}
 use lib.Seq.{drop-cons}
 use Rattle.logs.specs.Words.{kind}
@@ -21,6 +23,13 @@ module _ (m : Ceilings) (l : List ℕ) (n p : ℕ) (from : Bool) (t : ℕ) where
 
   pub word_last : length l ≤ p + 1 → log_word_at m l n p from t ≡ end_word p (get_or l p 0) t
   word_last h = rw (drop_of_length-le l h)
+
+  -- behind the log stands no end
+  pub word_behind : length l ≤ p → log_word_at m l n p from t ≡ refused 9 p
+  unfolding end_word
+  word_behind h =
+      let past : length l ≤ p + 1 = omega arith in
+      rw (drop_of_length-le l past, get_or_past l p 0 h)
 
   pub onwards_between : p + 1 < length l
       → onwards_at m l n p from t ≡ and_then (log_word_at m l n p from t) (onwards_at m l n (p + 1) (from || is_from (get_or l p 0)) (counted (is_to (get_or l p 0)) t))

@@ -311,15 +311,17 @@ impl<'a> Questions<'a> {
         Ok(LogWord::To(self.to_word(at, w, count)?))
     }
 
-    // Questions 4 to 10, of the word at `at` behind the head. Behind the log stands no word: what is asked there is a last word, 0.
+    // Questions 4 to 10, of the word at `at` behind the head. Behind the log stands no end.
+    #[tactic(auto, using(crate::proofs::Places::word_behind))]
     pub fn log_word(self, at: usize, from: bool, count: usize) -> Result<LogWord, Refusal>
         ensures { word_answer result ≡ log_word_at self.entry.most self.entry.log.now self.entry.n at from count }
     {
-        if at < self.log.len().saturating_sub(1) {
+        if self.log.len() <= at {
+            Err(Reason::NoEnd.at(at))
+        } else if at + 1 < self.log.len() {
             self.group_word(at, from, count)
         } else {
-            let w = self.log.get(at).copied().unwrap_or(0);
-            Ok(LogWord::End(end_word(w, at, count)?))
+            Ok(LogWord::End(end_word(self.log[at], at, count)?))
         }
     }
 
