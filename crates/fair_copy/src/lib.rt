@@ -25,7 +25,7 @@ fn copy(log: Log, out: &mut [u32], work: &mut [u32; WORK_WORDS]) -> usize
 }
 
 // Questions 1 to 12 of a copy of a log, at a caller's ceilings, with so many words lent.
-#[tactic(auto, using(report::proofs::Asked::asked_read, report::proofs::Asked::asked_denied, logs::proofs::Laws::words_small))]
+#[tactic(auto, using(logs::proofs::Laws::words_small))]
 pub fn copy_asked(
     most: Ceilings,
     words: &[u32],
@@ -35,9 +35,7 @@ pub fn copy_asked(
     ensures answer { result_answer (λ l. (l.episodes, l.to_words)) result ≡ copy_asked most words.now output work }
     ensures same { IfOk result (λ l. l.words.now ≡ words.now) }
 {
-    let log = Log::read(most, words)?;
-    report::lent(2 + 2 * log.to_words, output, work)?;
-    Ok(log)
+    report::call_asked(most, words, output, work, |_, t| 2 + 2 * t)
 }
 
 // The fair copy at a caller's ceilings.

@@ -4,7 +4,7 @@
 ghost use Rattle.std.specs.Prelude.{◌≡◌, List, ℕ, ◌+◌, ◌<◌, ◌≤◌, IfOk, length, replicate};
 ghost use Rattle.paths.specs.Graph.{Graph, Loop};
 ghost use Rattle.logs.specs.Answer.{given, result_answer, reason_number};
-ghost use Rattle.logs.specs.Log.{service, graph_of};
+ghost use Rattle.logs.specs.Log.{service, graph_of, PassesWith};
 ghost use Rattle.writing.specs.Layout.{report_need};
 ghost use Rattle.report.specs.Report.{work_words, lent, asked, Left};
 ghost use Rattle.report.specs.Solving.{Ready, LoopSought, Answered};
@@ -55,8 +55,27 @@ pub fn lent(need: usize, output: usize, work: usize) -> Result<(), Refusal>
     Ok(())
 }
 
-// Questions 1 to 12 of a report on a log, at a caller's ceilings.
+// Questions 1 to 12 of a call on a log, at a caller's ceilings, with so many words lent; the output needs the words that `need` gives for n and the
+// count of to words.
 #[tactic(auto, using(crate::proofs::Asked::asked_read, crate::proofs::Asked::asked_denied, logs::proofs::Laws::few_episodes))]
+pub fn call_asked<F: FnOnce(usize, usize) -> usize>(
+    most: Ceilings,
+    words: &[u32],
+    output: usize,
+    work: usize,
+    need: F,
+) -> Result<Log<'_>, Refusal>
+    requires { (n t : ℕ) → PassesWith words.now n t → n ≤ most.episodes → F.pre need n t }
+    ensures answer { (f : ℕ → ℕ → ℕ) → ((n t r : ℕ) → F.post need n t r → r ≡ f n t)
+        → result_answer (λ l. (l.episodes, l.to_words)) result ≡ asked most f words.now output work }
+    ensures same { IfOk result (λ l. l.words.now ≡ words.now) }
+{
+    let log = Log::read(most, words)?;
+    lent(need(log.episodes, log.to_words), output, work)?;
+    Ok(log)
+}
+
+// Questions 1 to 12 of a report on a log, at a caller's ceilings.
 fn report_asked(
     most: Ceilings,
     words: &[u32],
@@ -67,9 +86,7 @@ fn report_asked(
     ensures answer { result_answer (λ l. (l.episodes, l.to_words)) result ≡ asked most (λ n t. report_need n) words.now output work }
     ensures same { IfOk result (λ l. l.words.now ≡ words.now) }
 {
-    let log = Log::read(most, words)?;
-    lent(report_need(log.episodes), output, work)?;
-    Ok(log)
+    call_asked(most, words, output, work, |n, _| report_need(n))
 }
 
 // The links and the ways of a log, in work words of which those that are used are made zero first.
