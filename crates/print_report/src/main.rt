@@ -7,9 +7,6 @@ use logs::Refusal;
 use report::Outcome;
 use std::io;
 
-// The output words that are just enough for a report on 200 episodes.
-const REPORT_WORDS: usize = 10502;
-
 // A log that passes, and what is counted of it: its episodes and its different links.
 #[derive(Clone, Copy)]
 struct Passed<'a> {
@@ -33,7 +30,7 @@ fn asked<'a>(bytes: &[u8], words: &'a mut [u32]) -> Result<Passed<'a>, Refusal> 
 
 // Prints the report on a log that passes, or its loop.
 fn report_on(rt: &impl Print, passed: Passed) -> io::Result<()> {
-    let mut out = [0u32; REPORT_WORDS];
+    let mut out = [0u32; report::REPORT_WORDS];
     let mut work = [0u32; report::WORK_WORDS];
     match report::report(passed.log, &mut out, &mut work) {
         Outcome::Report(count) => show::report(rt, passed.episodes, passed.links, &out[..count]),

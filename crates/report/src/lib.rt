@@ -15,6 +15,9 @@ use logs::{Ceilings, Log, Reason, Refusal};
 // The work words that a caller lends.
 pub const WORK_WORDS: usize = 16384;
 
+// The output words that are just enough for every report: those of 200 episodes.
+pub const REPORT_WORDS: usize = 10502;
+
 // The outcome of a report call: a report with its count of words, a loop with its length, or a refusal with its number and place, in plain numbers,
 // as the scope asks. The words of a report or a loop stay in the lent output.
 #[derive(Clone, Copy, Debug, PartialEq, Eq)]

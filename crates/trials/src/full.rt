@@ -3,7 +3,7 @@ ghost use Rattle.std.specs.Prelude.{◌≤◌};
 
 use crate::show::{Asked, Service, Trial};
 use logs::Kind;
-use std::io;
+use std::{array, io};
 
 // What is asked of each log.
 const EACH: [Asked; 5] = [
@@ -40,10 +40,7 @@ fn filled<F: Fn(usize) -> u32>(
     requires called { F.IsAlwaysCallable word_at }
     requires within { (3 ≤ n) × (n ≤ 8196) × (count ≤ 4097) }
 {
-    let mut words = [0u32; 8196];
-    for (i, word) in words.iter_mut().enumerate() {
-        *word = word_at(i);
-    }
+    let mut words: [u32; 8196] = array::from_fn(word_at);
     words[0] = Kind::Head.word(200);
     words[1] = Kind::From.word(0);
     words[n - 1] = Kind::End.word(count);

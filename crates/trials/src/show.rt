@@ -1,9 +1,9 @@
 // The calls that are tried, and what each answers, as a line.
 ghost use Rattle.std.specs.Prelude.{◌≤◌};
-ghost use Rattle.trials.specs.declared.show.TheConstants.{REPORT_WORDS};
+ghost use Rattle.report.specs.declared.TheConstants.{REPORT_WORDS};
 
 use logs::{Reading, Reason, Refusal};
-use report::{Outcome, WORK_WORDS};
+use report::{Outcome, REPORT_WORDS, WORK_WORDS};
 use std::{fmt, io};
 
 // The services that write to a lent output.
@@ -257,9 +257,6 @@ impl Call {
         write_outcome(rt, service, outcome, &out, &scratch)
     }
 }
-
-// The output words that are just enough for a report on 200 episodes.
-const REPORT_WORDS: usize = 10502;
 
 // The output words that are just enough for a copy: those of the longest log that passes.
 const COPY_WORDS: usize = input::MOST_BYTES / 4;
