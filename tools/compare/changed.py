@@ -143,20 +143,17 @@ def main(argv):
                     say(f"`{trees.full(k)}`" + (f", now `{trees.full(q)}`" if trees.full(q) != trees.full(k) else "") + (", no longer public" if trees.is_public(k, x) and not trees.is_public(q, y) else ""))
                     say()
                     beside(trees.function_lines(k, x), trees.function_lines(q, y))
-        if tys:
-            section("Public types")
-            for k, x, y in tys:
-                totals["Public types"] += 1
-                say(f"`{k[0]}::{k[1]}`")
-                say()
-                beside(lines_of_type(x), lines_of_type(y))
-        if ghosts:
-            section("Ghost items and constants")
-            for k, x, y in ghosts:
-                totals["Ghost items and constants"] += 1
-                say(f"`{k[1]}.{k[2]}`")
-                say()
-                beside(x, y)
+        for label, items in (
+            ("Public types", [(f"{k[0]}::{k[1]}", lines_of_type(x), lines_of_type(y)) for k, x, y in tys]),
+            ("Ghost items and constants", [(f"{k[1]}.{k[2]}", x, y) for k, x, y in ghosts]),
+        ):
+            if items:
+                section(label)
+                for name, x, y in items:
+                    totals[label] += 1
+                    say(f"`{name}`")
+                    say()
+                    beside(x, y)
         for label, ps in (("Definitions", defs), ("Theorems", theorems), ("Lemmas", [] if "--no-lemmas" in argv else lemmas)):
             if ps:
                 section(label)
