@@ -58,7 +58,7 @@ module _ (w : List ℕ) (k : ℕ) (eight : k ≡ 8) where
       record { same_length = s.same_length; joined = λ b h. s.joined b h ∙ ap (λ x. max (bit v 0 b) x) (bit_row row b h) }
 
   module _ (row : ℕ) (v : List ℕ) (fits : row + 8 ≤ length w) where
-    bit_put : length v ≡ k → (b : ℕ) → b < 256 → bit (put_mid row k w v) row b ≡ bit v 0 b
+    pub bit_put : length v ≡ k → (b : ℕ) → b < 256 → bit (put_mid row k w v) row b ≡ bit v 0 b
     unfolding bit
     bit_put many b h =
         let e : 0 + b / 32 ≡ b / 32 = omega arith in

@@ -14,7 +14,7 @@ use lib.Seq.{get_or-set_same, get_or-set_other}
 use lib.Pow.{pow_mono}
 use lib.Bits.{bit_or}
 use lib.Count.{count_trailing_zeros}
-use Rattle.bits.specs.Bits.{digit, bit, BitSet, RowAdded, FirstFrom, WordOf, NextNew}
+use Rattle.bits.specs.Bits.{digit, bit, BitSet, RowAdded, RowLess, FirstFrom, WordOf, NextNew}
 use Rattle.bits.specs.Ones.{BitGiven}
 use Rattle.bits.specs.declared.ones.Row.{Row}
 use Rattle.bits.proofs.Digits.{mask, digit_lt, digit_or, digit_shr, digit_one, digit_other, digit_trailing, digit_below, digit_none}
@@ -237,6 +237,11 @@ module _ (u v : List ℕ) (row seen : ℕ) where
 
   pub new_bit : (c : ℕ) → bit u row c - bit v seen c ≡ 1 → (bit u row c ≡ 1) × (bit v seen c ≡ 0)
   new_bit c e = let k = bit_lt u row c in (omega arith, omega arith)
+
+-- so it is bit by bit
+pub bit_less : {w u v : List ℕ} {row : ℕ} → RowLess w row u v → (b : ℕ) → b < 256 → bit v 0 b ≡ bit w row b - bit u 0 b
+unfolding bit
+bit_less s b h = let e : 0 + b / 32 ≡ b / 32 = omega arith in rw e (s.less (b / 32) (b % 32) (omega arith))
 
 pub first_new : {w : List ℕ} {row seen from r : ℕ} → FirstFrom (λ c. bit w row c - bit w seen c) from r → NextNew w row seen from r
 first_new {w} {row} {seen} {from} {r} f =

@@ -1,5 +1,5 @@
 -- Rows of bits in a list of 32-bit words: 8 words to a row, 32 bits to a word, the lowest first.
-use Rattle.std.specs.Prelude.{◌≡◌, Option, Some, None, ◌≢◌, List, ℕ, zero, suc, ◌+◌, ◌*◌, ◌/◌, ◌%◌, ◌^◌, ◌≤◌, ◌<◌, max, length, get_or}
+use Rattle.std.specs.Prelude.{◌≡◌, Option, Some, None, ◌≢◌, List, ℕ, zero, suc, ◌+◌, ◌-◌, ◌*◌, ◌/◌, ◌%◌, ◌^◌, ◌≤◌, ◌<◌, max, length, get_or}
 
 -- digit `i` of `x`, in binary
 abbrev pub digit : ℕ → ℕ → ℕ
@@ -39,6 +39,11 @@ pub record RowGained (v w w' : List ℕ) (row : ℕ) : Type 0 where
 pub record RowTaken (w : List ℕ) (row : ℕ) (v : List ℕ) : Type 0 where
   pub eight : length v ≡ 8
   pub taken : (b : ℕ) → b < 256 → bit v 0 b ≡ bit w row b
+
+-- `v` is the row of `w` that starts at word `row`, by itself, without the bits of `u`, word by word
+pub record RowLess (w : List ℕ) (row : ℕ) (u v : List ℕ) : Type 0 where
+  pub eight : length v ≡ 8
+  pub less : (i j : ℕ) → i < 8 → digit (get_or v i 0) j ≡ digit (get_or w (row + i) 0) j - digit (get_or u i 0) j
 
 -- `r` is the first from `from` on of the 256 bits, or 256
 pub record FirstFrom (bits : ℕ → ℕ) (from r : ℕ) : Type 0 where

@@ -1,12 +1,14 @@
-// Rows of bits in lent words: 8 words, 256 bits, to a row.
+// Rows of bits in lent words: 8 words, 256 bits, to a row. The words may be longer than what is used of them and the row begin anywhere, so the
+// contracts say that it is within them. `as` stands between u32 and usize, since neither has a `From` for the other.
 #![tactic(auto)]
 
 ghost use Rattle.std.specs.Prelude.{◌≡◌, ℕ, ◌+◌, ◌-◌, ◌*◌, ◌/◌, ◌<◌, ◌≤◌, IfSome, eqb, length, get_or, replicate};
-ghost use Rattle.bits.specs.Bits.{digit, bit, BitSet, RowJoined, RowAdded, RowGained, RowTaken, RowCopied, FirstFrom, WordOf, FirstBit, NextNew, place_or_end};
+ghost use Rattle.bits.specs.Bits.{digit, bit, BitSet, RowJoined, RowAdded, RowGained, RowTaken, RowLess, RowCopied, FirstFrom, WordOf, FirstBit, NextNew, place_or_end};
 
 pub mod ones;
 
 pub use ones::{Ones, Row, bits_of, ones_of};
+use std::array;
 
 // The regions of the work words: the links and the ways, each a row of bits for each episode; the tables of the search, 256 words each;
 // the bits of what it has seen, of what earlier searches have seen in vain, and bits of which none is set.
@@ -59,6 +61,7 @@ fn join(to: &mut [u32], from: &[u32])
     requires { (length to.old ≡ 8) × (length from.now ≡ 8) }
     ensures { RowAdded from.now 0 to.old to.new }
 {
+    // By place in both: `zip` beside `iter_mut` was tried, and leaves the checker without the fact that both are at one place.
     for (i, word) in to.iter_mut().enumerate() {
         *word |= from[i];
     }
@@ -112,6 +115,14 @@ pub fn without(word: u32, other: u32) -> u32
     ensures { (i : ℕ) → digit result i ≡ digit word i - digit other i }
 {
     (word | other) ^ other
+}
+
+// The row that starts at word `row`, by itself, without the bits that `other` has.
+pub fn row_without(w: &[u32], row: usize, other: &[u32; 8]) -> [u32; 8]
+    requires { row + 8 ≤ length w.now }
+    ensures { RowLess w.now row other.now result }
+{
+    array::from_fn(|i| without(w[row + i], other[i]))
 }
 
 // The first bit from `from` on of the row of eight words that `word_of` gives.

@@ -1,5 +1,6 @@
 // Chains of items in the work words: first pairs as they come, then an augmenting search from the end of each chain, which joins it to another.
-// What a search has seen in vain is dead: no later search looks at it.
+// What a search has seen in vain is dead: no later search looks at it. A chain is followed by `while let`, since the checker holds `successors`
+// to be endless.
 #![tactic(auto)]
 
 ghost use Rattle.std.specs.Prelude.{◌+◌, ◌<◌};
@@ -55,7 +56,7 @@ fn extend(w: &mut [u32], base: usize, m: usize, a: usize)
     bits::copy_row(w, SEEN, DEAD);
 }
 
-// From chains of pairs of the matrix to as few as can be.
+// From chains of pairs of the matrix to as few as can be. As in `first_pairs`, two lines around another call: a function of the call would be as long.
 fn extend_all(w: &mut [u32], base: usize, m: usize)
     requires { Chained w.old base m }
     ensures { JoinedIn w.old w.new base m }

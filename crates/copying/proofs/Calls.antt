@@ -1,4 +1,4 @@
--- Calls that write the groups of a graph, episode by episode.
+-- Calls that write the links of a graph, episode by episode.
 use mathlib.Core.Path.{◌≡◌, refl, subst, ◌∙◌}
 use mathlib.Core.Logic.{◌≢◌}
 use mathlib.Core.List.{List}
@@ -13,7 +13,7 @@ use Rattle.logs.specs.Log.{content_of, graph_of}
 use Rattle.logs.specs.declared.passed.Log.{Log}
 use Rattle.logs.proofs.Laws.{graph_episodes}
 use Rattle.copying.specs.FairCopy.{linked_to, group, copy_words}
-use Rattle.copying.specs.Copying.{BlockMarks, GroupWritten}
+use Rattle.copying.specs.Copying.{BlockMarks, LinksWritten}
 use Rattle.copying.specs.Calls.{RoomFor, CalledBelow, WritesGroups}
 use Rattle.copying.proofs.Rows.{next_block}
 use Rattle.copying.proofs.Copies.{Copying, copying_room}
@@ -23,7 +23,7 @@ module _ {F : Type 0} (pre : F → ℕ → MutBor (List ℕ) → Type 0) (step :
     (pause : ℕ → ℕ → ℕ) (g : Graph) (Ready : ℕ → F → Type 0)
     (may : (a : ℕ) (f : F) (o : MutBor (List ℕ)) → a < g.n → Ready a f → RoomFor pause g a o.now → pre f a o)
     (writes : (a r : ℕ) (f f' : F) (o o' : MutBor (List ℕ)) → a < g.n → Ready a f → RoomFor pause g a o.now → step f a o r o' f'
-    → Ready (a + 1) f' × GroupWritten a (pause a) (linked_to a g.links g.n) o.now o'.now r) where
+    → Ready (a + 1) f' × LinksWritten (pause a) (linked_to a g.links g.n) o.now o'.now r) where
   ready : (a : ℕ) (f f' : F) → Ready 0 f → a ≤ g.n → CalledBelow pre step pause g f a f' → Ready a f'
   ready zero f f' first h e = subst (Ready 0) e first
   ready (suc a) f f' first h (e, o, o', r, before, room, s) =
@@ -45,7 +45,7 @@ module _ {F : Type 0} {pre : F → ℕ → MutBor (List ℕ) → Type 0} {step :
     next_may p at = calls.may a e p before h (rw at (copying_room s fits _ refl h))
 
     module _ {r : ℕ} {p p' : MutBor (List ℕ)} {e' : F} (at : p.now ≡ take (length o' - words) (drop words o')) (call : step e a p r p' e') where
-      pub next_written : GroupWritten a (pause a) (linked_to a g.links g.n) p.now p'.now r
+      pub next_written : LinksWritten (pause a) (linked_to a g.links g.n) p.now p'.now r
       next_written = calls.writes a r e e' p p' before h (rw at (copying_room s fits _ refl h)) call
 
       pub next_called : CalledBelow pre step pause g f (a + 1) e'
@@ -67,8 +67,8 @@ pub record Asked (f : Held) (a : ℕ) (o : List ℕ) : Type 0 where
 pub record Left (f : Held) (a : ℕ) (o : List ℕ) (r : ℕ) (o' : List ℕ) (f' : Held) : Type 0 where
   pub log : f'.0.now ≡ f.0.now
   pub marks : BlockMarks (a / 64) (content_of f.0.now.words.now) f'.1.now
-  pub group : let l = f.0.now.words.now in
-      GroupWritten a (least_pause (content_of l) a) (linked_to a (graph_of l).links f.0.now.episodes) o o' r
+  pub links : let l = f.0.now.words.now in
+      LinksWritten (least_pause (content_of l) a) (linked_to a (graph_of l).links f.0.now.episodes) o o' r
 
 -- what stands before the group of `a`
 record Ready (l : Log) (a : ℕ) (f : Held) : Type 0 where
@@ -99,6 +99,6 @@ fair_groups pre step may leave f few =
         log = left.log ∙ s.log;
         marks = next_block a (content_of l.words.now) e'.1.now (rw s.log at left.marks);
       },
-      rw (s.log, ← count) at left.group,
+      rw (s.log, ← count) at left.links,
     ))
     f (record { log = refl; marks = λ ne. absurd (ne refl) })

@@ -1,6 +1,6 @@
 -- The groups in the output, episode by episode, and the whole copy.
 use mathlib.Core.Path.{◌≡◌, refl, sym, ap, subst}
-use mathlib.Core.List.{List, [], ◌∷◌, ◌++◌}
+use mathlib.Core.List.{List, [], ◌∷◌, ◌++◌, map}
 use Prim.Native.Nat.{ℕ, zero, suc, ◌+◌, ◌-◌, ◌≤◌, ◌<◌, ◌^◌}
 use native.Mathlib.Numerals.{add-one}
 use native.Mathlib.Omega.{arith}
@@ -8,14 +8,14 @@ use lib.ListN.{length, get_or, set, take, drop, length-append, length-map, lengt
 use Rattle.paths.specs.Graph.{Graph}
 use Rattle.paths.specs.Links.{linked}
 use Rattle.paths.proofs.Passing.{length_passing}
-use Rattle.logs.specs.Words.{word}
+use Rattle.logs.specs.Words.{word, to_word}
 use Rattle.logs.specs.Log.{graph_of, PassedLog}
 use Rattle.logs.proofs.Words.{number_lt}
 use Rattle.logs.proofs.Laws.{words_small, graph_count}
 use Rattle.writing.specs.Layout.{BeginsWith}
 use Rattle.writing.proofs.Buffers.{begins_itself, begins_first, begins_more, begins_length, begins_part, lent_part, lent_rest}
 use Rattle.copying.specs.FairCopy.{linked_to, group, groups, group_links, copy_words}
-use Rattle.copying.specs.Copying.{group_length, GroupWritten, GroupsWritten}
+use Rattle.copying.specs.Copying.{group_length, LinksWritten, GroupWritten, GroupsWritten}
 use Rattle.copying.proofs.Linked.{length_group, groups_more, length_copy, group_room}
 use Rattle.copying.proofs.GroupLinks.{links_of}
 
@@ -27,8 +27,12 @@ pub links_small : (l : List ℕ) → PassedLog l → length (graph_of l).links <
 links_small l (m, n, t, e, few) = omega (arith, words_small m l n t e, graph_count m l n t e)
 
 -- one episode of few has few links
-pub few_links : (ls : List (ℕ × ℕ)) (n a : ℕ) {pause : ℕ → ℕ} {o o' : List ℕ} {r : ℕ} → n < 2 ^ 28 → GroupWritten a pause (linked_to a ls n) o o' r → r < 2 ^ 28
+pub few_links : (ls : List (ℕ × ℕ)) (n a : ℕ) {pause : ℕ → ℕ} {o o' : List ℕ} {r : ℕ} → n < 2 ^ 28 → LinksWritten pause (linked_to a ls n) o o' r → r < 2 ^ 28
 few_links ls n a few g = omega (arith, g.count, length_passing (λ b. linked a b ls) n)
+
+-- links are written in as many words as there were
+pub links_room : {pause : ℕ → ℕ} {bs o o' : List ℕ} {r : ℕ} → LinksWritten pause bs o o' r → length o' ≡ length o
+links_room {pause} {bs} {o} {o'} s = begins_length (get_or o 0 0 ∷ map (λ (b : ℕ). to_word b (pause b)) bs) o o' s.words
 
 group_links_more : (g : Graph) (a : ℕ) → group_links g (a + 1) ≡ group_links g a ++ links_of a (linked_to a g.links g.n)
 unfolding group_links

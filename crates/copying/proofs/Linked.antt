@@ -1,6 +1,6 @@
 -- The episodes that an episode is linked to, and the words of its group.
 use mathlib.Core.Path.{◌≡◌, refl, ap}
-use mathlib.Core.List.{List, [], ◌∷◌, ◌++◌, map_congr_left, Memᴰ as Mem}
+use mathlib.Core.List.{List, [], ◌∷◌, ◌++◌, map, map_congr_left, Memᴰ as Mem}
 use Prim.Native.Nat.{ℕ, zero, suc, ◌+◌, ◌*◌, ◌<◌, ◌≤◌}
 use native.Mathlib.Decide.{ℕ_discrete}
 use native.Mathlib.Nat.{ℕ_set}
@@ -35,12 +35,22 @@ unfolding group
 length_group_le a pause [] = omega arith
 length_group_le a pause (b ∷ bs) = omega (arith, length-map bs (λ (c : ℕ). to_word c (pause c)))
 
--- it depends on the pauses of its own links alone
+-- and so more words than links
+pub links_fewer : (a : ℕ) (pause : ℕ → ℕ) (bs : List ℕ) → length bs ≤ length (group a pause bs)
+links_fewer a pause bs = go bs (length_group a pause bs)
+  where
+    go : (bs : List ℕ) → length (group a pause bs) ≡ group_length (length bs) → length bs ≤ length (group a pause bs)
+    go [] e = omega arith
+    go (b ∷ bs) e = omega arith
+
+-- the words of links depend on their own pauses alone, and so does a group
+pub links_same : (p q : ℕ → ℕ) (bs : List ℕ) → All (λ b. p b ≡ q b) bs → map (λ b. to_word b (p b)) bs ≡ map (λ b. to_word b (q b)) bs
+links_same p q bs h = map_congr_left (λ c m. ∥∥₁_rec (ℕ_set _ _) (λ i. ap (to_word c) (h c i)) m)
+
 pub group_same : (a : ℕ) (p q : ℕ → ℕ) (bs : List ℕ) → All (λ b. p b ≡ q b) bs → group a p bs ≡ group a q bs
 unfolding group
 group_same a p q [] h = refl
-group_same a p q (b ∷ bs) h =
-    ap (λ (ws : List ℕ). word 2 a ∷ ws) (map_congr_left (λ c m. ∥∥₁_rec (ℕ_set _ _) (λ i. ap (to_word c) (h c i)) m))
+group_same a p q (b ∷ bs) h = ap (λ (ws : List ℕ). word 2 a ∷ ws) (links_same p q (b ∷ bs) h)
 
 module _ (pause : ℕ → ℕ → ℕ) (g : Graph) where
   pub groups_more : (a : ℕ) → groups pause g (a + 1) ≡ groups pause g a ++ group a (pause a) (linked_to a g.links g.n)

@@ -18,7 +18,7 @@ use Rattle.order.specs.Order.{All}
 use Rattle.paths.proofs.Passing.{passing_equal}
 use Rattle.paths.specs.Links.{linked}
 use Rattle.paths.proofs.Links.{linked_mem, mem_linked}
-use Rattle.logs.specs.Words.{to_episode, to_pause}
+use Rattle.logs.specs.Words.{to_episode, to_pause, to_word}
 use Rattle.logs.specs.Content.{Heard, Content, joins, pauses_of, least, least_pause}
 use Rattle.logs.specs.Log.{content_of}
 use Rattle.logs.specs.Groups.{heard_before, told, EpisodesBelow}
@@ -30,7 +30,7 @@ use Rattle.logs.proofs.Pauses.{pauses_append, pauses_one, pauses_none, pauses_he
 use Rattle.logs.proofs.Laws.{graph_episodes, before_head, heard_passed}
 use Rattle.logs.proofs.Passing.{heard_group}
 use Rattle.writing.specs.Layout.{BeginsWith}
-use Rattle.copying.specs.FairCopy.{linked_to, group}
+use Rattle.copying.specs.FairCopy.{linked_to}
 use Rattle.copying.specs.Copying.{
   mark,
   lowered,
@@ -42,9 +42,9 @@ use Rattle.copying.specs.Copying.{
   marked_at,
   marked,
   pause_at,
-  GroupWritten,
+  LinksWritten,
 }
-use Rattle.copying.proofs.Linked.{linked_to_mem, group_same}
+use Rattle.copying.proofs.Linked.{linked_to_mem, links_same}
 
 -- the mark of a link that is heard once more, with the pause `q`
 mark_more : (ps : List ℕ) (q : ℕ) → mark (ps ++ q ∷ []) ≡ lowered (mark ps) q
@@ -207,7 +207,7 @@ module _ (c : Content) (a n : ℕ) (w : List ℕ) (e : c.n ≡ n) (few : n ≤ 2
   row_holds b h =
       get_or-take (row_at a + n - row_at a) (drop (row_at a) w) b 0 (omega (arith, row_length)) ∙ get_or-drop (row_at a) w b 0 ∙ m a b refl (omega (arith, row_length))
 
-  row_marks : marked (row_of a n w) (length (row_of a n w)) ≡ linked_to a (map joins c.heard) n
+  pub row_marks : marked (row_of a n w) (length (row_of a n w)) ≡ linked_to a (map joins c.heard) n
   row_marks =
       marked_linked a c.heard (row_of a n w) row_holds (length (row_of a n w)) (omega arith)
       ∙ ap (linked_to a (map joins c.heard)) row_length
@@ -216,19 +216,23 @@ module _ (c : Content) (a n : ℕ) (w : List ℕ) (e : c.n ≡ n) (few : n ≤ 2
   pub row_short : ((h : Heard) → Mem h c.heard → h.pause < 2 ^ 12) → (b : ℕ) → b < length (row_of a n w) → get_or (row_of a n w) b 0 ≤ 2 ^ 12
   row_short short b h = rw (row_holds b h) (mark_short (pauses_of a b c.heard) (λ p i. short _ (pauses_heard a b p c.heard i)))
 
-  -- so a group that is written from the row has the links of `a` with their least pauses
-  pub row_words : group a (pause_at (row_of a n w)) (marked (row_of a n w) (length (row_of a n w))) ≡ group a (least_pause c a) (linked_to a (map joins c.heard) n)
-  row_words =
-      ap (group a (pause_at (row_of a n w))) row_marks
-      ∙ group_same a (pause_at (row_of a n w)) (least_pause c a) (linked_to a (map joins c.heard) n)
-      (λ b i.
-      let below = (linked_to_mem a (map joins c.heard) b n i).0 in
-      marked_pause a c.heard (row_of a n w) row_holds b (omega (arith, row_length)))
-
-  pub row_written : (o o' : List ℕ) (r : ℕ)
-      → GroupWritten a (pause_at (row_of a n w)) (marked (row_of a n w) (length (row_of a n w))) o o' r
-      → GroupWritten a (least_pause c a) (linked_to a (map joins c.heard) n) o o' r
-  row_written o o' r d = record { count = d.count ∙ ap length row_marks; words = subst (λ (ws : List ℕ). BeginsWith ws o o') row_words d.words }
+  -- so links that are written from the row are those of `a` with their least pauses
+  pub row_written : {o o' : List ℕ} {r : ℕ} → LinksWritten (pause_at (row_of a n w)) (marked (row_of a n w) (length (row_of a n w))) o o' r
+      → LinksWritten (least_pause c a) (linked_to a (map joins c.heard) n) o o' r
+  row_written {o} {o'} d =
+      record {
+        count = d.count ∙ ap length row_marks;
+        words = subst (λ (ws : List ℕ). BeginsWith (get_or o 0 0 ∷ ws) o o') same d.words;
+      }
+    where
+      same : map (λ (b : ℕ). to_word b (pause_at (row_of a n w) b)) (marked (row_of a n w) (length (row_of a n w)))
+          ≡ map (λ (b : ℕ). to_word b (least_pause c a b)) (linked_to a (map joins c.heard) n)
+      same =
+          ap (map (λ (b : ℕ). to_word b (pause_at (row_of a n w) b))) row_marks
+          ∙ links_same (pause_at (row_of a n w)) (least_pause c a) (linked_to a (map joins c.heard) n)
+          (λ b i.
+          let below = (linked_to_mem a (map joins c.heard) b n i).0 in
+          marked_pause a c.heard (row_of a n w) row_holds b (omega (arith, row_length)))
 
 -- the block of `a` is that of the next episode too, unless that one is the first of its block
 pub next_block : (a : ℕ) (c : Content) (w : List ℕ) → BlockMarks (a / 64) c w → (a + 1) % 64 ≢ 0 → BlockMarks ((a + 1) / 64) c w

@@ -1,9 +1,9 @@
--- The groups of a graph written by calls, one for each episode.
+-- The links of a graph written by calls, one for each episode.
 use Rattle.std.specs.Prelude.{◌≡◌, List, ℕ, zero, suc, ◌<◌, length}
 use Rattle.std.specs.Borrow.{MutBor}
 use Rattle.paths.specs.Graph.{Graph}
 use Rattle.copying.specs.FairCopy.{linked_to, group}
-use Rattle.copying.specs.Copying.{GroupWritten}
+use Rattle.copying.specs.Copying.{LinksWritten}
 
 -- `o` has room for the group of `a`, and for a word more
 abbrev pub RoomFor : (ℕ → ℕ → ℕ) → Graph → ℕ → List ℕ → Type 0
@@ -17,8 +17,8 @@ module _ {F : Type 0} (pre : F → ℕ → MutBor (List ℕ) → Type 0) (step :
   CalledBelow f zero f' = f ≡ f'
   CalledBelow f (suc a) f' = (e : F) × (o o' : MutBor (List ℕ)) × (r : ℕ) × CalledBelow f a e × RoomFor pause g a o.now × step e a o r o' f'
 
-  -- called for each episode in turn, `f` writes its group
+  -- called for each episode in turn, `f` writes its links
   pub record WritesGroups (f : F) : Type 0 where
     pub may : (a : ℕ) (e : F) (o : MutBor (List ℕ)) → CalledBelow f a e → a < g.n → RoomFor pause g a o.now → pre e a o
     pub writes : (a r : ℕ) (e e' : F) (o o' : MutBor (List ℕ)) → CalledBelow f a e → a < g.n → RoomFor pause g a o.now → step e a o r o' e'
-        → GroupWritten a (pause a) (linked_to a g.links g.n) o.now o'.now r
+        → LinksWritten (pause a) (linked_to a g.links g.n) o.now o'.now r

@@ -2,6 +2,7 @@
 use Rattle.std.specs.Prelude.{◌≡◌, ◌≢◌, Bool, not, List, [], ◌∷◌, ◌++◌, map, ℕ, zero, suc, ◌+◌, ◌-◌, ◌*◌, ◌/◌, ◌%◌, ◌≤◌, ◌<◌, min, eqb, length, get_or}
 use Rattle.paths.specs.Graph.{Graph}
 use Rattle.paths.specs.Passing.{passing}
+use Rattle.logs.specs.Words.{to_word}
 use Rattle.logs.specs.Content.{Heard, Content, pauses_of, least}
 use Rattle.logs.specs.Groups.{told}
 use Rattle.copying.specs.FairCopy.{group, groups, group_links}
@@ -57,6 +58,11 @@ pause_at row b = get_or row b 0 - 1
 abbrev pub group_length : ℕ → ℕ
 group_length zero = 0
 group_length (suc k) = k + 2
+
+-- behind the first word the to words of links to `bs` with their pauses are written; `r` counts them
+pub record LinksWritten (pause : ℕ → ℕ) (bs o o' : List ℕ) (r : ℕ) : Type 0 where
+  pub count : r ≡ length bs
+  pub words : BeginsWith (get_or o 0 0 ∷ map (λ (b : ℕ). to_word b (pause b)) bs) o o'
 
 -- the group of `a` with the links to `bs` and their pauses is written; `r` counts them
 pub record GroupWritten (a : ℕ) (pause : ℕ → ℕ) (bs o o' : List ℕ) (r : ℕ) : Type 0 where

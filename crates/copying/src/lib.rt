@@ -2,7 +2,7 @@
 // episode; then the marked ones are written, row by row.
 #![tactic(auto)]
 
-ghost use Rattle.std.specs.Prelude.{◌≡◌, ◌≢◌, ℕ, ◌/◌, ◌%◌, ◌^◌, ◌<◌, ◌≤◌, length, get_or, replicate, set};
+ghost use Rattle.std.specs.Prelude.{◌≡◌, ◌≢◌, List, ℕ, ◌/◌, ◌%◌, ◌^◌, ◌<◌, ◌≤◌, length, get_or, replicate, set};
 ghost use Rattle.logs.specs.Words.{word, Small};
 ghost use Rattle.logs.specs.Content.{least_pause};
 ghost use Rattle.logs.specs.Log.{content_of, graph_of};
@@ -11,15 +11,15 @@ ghost use Rattle.writing.specs.Layout.{BeginsWith};
 ghost use Rattle.copying.specs.FairCopy.{linked_to, group, group_links, copy_words, fair_words};
 ghost use Rattle.copying.specs.Calls.{WritesGroups};
 ghost use Rattle.paths.specs.Graph.{Graph};
-ghost use Rattle.copying.specs.Copying.{block_words, BlockMarks, Lowered, GroupTaken, marked, pause_at, group_length, GroupWritten, GroupsWritten};
+ghost use Rattle.copying.specs.Copying.{block_words, BlockMarks, Lowered, GroupTaken, marked, pause_at, group_length, LinksWritten, GroupWritten, GroupsWritten};
 
 use logs::{Group, Kind, Log, ToWord};
 
 // The words of a block.
 pub const BLOCK: usize = 16384;
 
-// Lowers the mark at `at` to the pause plus one, where there is none yet or a higher one. The mark is compared as it stands: by
-// `checked_sub(1)`, as in `write_group`, a fair copy takes 0.6 per cent more instructions.
+// Lowers the mark at `at` to the pause plus one, where there is none yet or a higher one. The mark is compared and not taken apart, so `checked_sub(1)`,
+// as in `write_links`, would be no plainer.
 fn lower(w: &mut [u32], at: usize, pause: u32)
     requires { (at < length w.old) × (pause < 2 ^ 12) }
     ensures { Lowered at pause w.old w.new }
@@ -30,7 +30,7 @@ fn lower(w: &mut [u32], at: usize, pause: u32)
     }
 }
 
-// Marks the links of a group, in the row of its episode in its block.
+// Marks the links of a group, in the row of its episode in its block. As in `reach`, but for what is done at each to word.
 fn mark_group(group: Group, w: &mut [u32; BLOCK])
     requires { EpisodesBelow 256 group.to_words.now }
     ensures { GroupTaken (group.entry.from / 64) group.entry.from group.entry.to_words.now w.old w.new }
@@ -65,13 +65,11 @@ fn block_of(log: Log, a: usize, w: &mut [u32; BLOCK])
     }
 }
 
-// Writes the group of `a` from its row, and gives the count of its links.
-fn write_group(row: &[u32], a: usize, out: &mut [u32]) -> usize
-    requires { (length (group a (pause_at row.now) (marked row.now (length row.now))) < length out.old)
-        × (a < length row.now) × (length row.now < 2 ^ 16)
+// Writes the to words of a group behind its first word, from the row of its episode, and gives their count.
+fn write_links(row: &[u32], out: &mut [u32]) -> usize
+    requires { (length (marked row.now (length row.now)) < length out.old) × (length row.now < 2 ^ 16)
         × ((b : ℕ) → b < length row.now → get_or row.now b 0 ≤ 2 ^ 12) }
-    ensures { GroupWritten a (pause_at row.now) (marked row.now (length row.now))
-        out.old out.new result }
+    ensures { LinksWritten (pause_at row.now) (marked row.now (length row.now)) out.old out.new result }
 {
     let mut links = 0;
     for (b, mark) in row.iter().enumerate() {
@@ -81,10 +79,17 @@ fn write_group(row: &[u32], a: usize, out: &mut [u32]) -> usize
             out[links] = to.word();
         }
     }
+    links
+}
+
+// Puts the from word of `a` before the to words of its links, where it has some.
+fn put_from(a: usize, links: usize, out: &mut [u32])
+    requires { Small a × (0 < length out.old) }
+    ensures { (pause : ℕ → ℕ) (bs o : List ℕ) → LinksWritten pause bs o out.old links → GroupWritten a pause bs o out.new links }
+{
     if links != 0 {
         out[0] = Kind::From.word(a);
     }
-    links
 }
 
 // How many words a group of so many links has.
@@ -102,7 +107,7 @@ pub struct Written {
     pub links: usize,
 }
 
-// Writes the groups of all episodes behind the first word, each by a call of `write_row`.
+// Writes the groups of all episodes behind the first word, the links of each by a call of `write_row`.
 fn write_groups<F: FnMut(usize, &mut [u32]) -> usize>(
     n: usize,
     out: &mut [u32],
@@ -116,7 +121,9 @@ fn write_groups<F: FnMut(usize, &mut [u32]) -> usize>(
     let mut words = 1;
     let mut links = 0;
     for a in 0..n {
-        let more = write_row(a, &mut out[words..]);
+        let group = &mut out[words..];
+        let more = write_row(a, group);
+        put_from(a, more, group);
         words += group_words(more);
         links += more;
     }
@@ -132,7 +139,7 @@ pub fn write_ends(n: usize, words: usize, links: usize, out: &mut [u32])
     out[words] = Kind::End.word(links);
 }
 
-// Writes a copy with `n` episodes, each group by a call of `write_row`, and gives its count of words.
+// Writes a copy with `n` episodes, the links of each by a call of `write_row`, and gives its count of words.
 pub fn write_by_rows<F: FnMut(usize, &mut [u32]) -> usize>(
     n: usize,
     out: &mut [u32],
@@ -161,13 +168,13 @@ pub fn write_copy(log: Log, out: &mut [u32], w: &mut [u32; BLOCK]) -> usize
             requires { (log.episodes ≤ 256) × (a < log.episodes) × (a % 64 ≢ 0 → BlockMarks (a / 64) (content_of log.words.now) w.now)
                 × (length (group a (least_pause (content_of log.words.now) a) (linked_to a (graph_of log.words.now).links log.episodes)) < length rest.old) }
             ensures { BlockMarks (a / 64) (content_of log.entry.words.now) w.exit.now
-                × GroupWritten a (least_pause (content_of log.entry.words.now) a) (linked_to a (graph_of log.entry.words.now).links log.entry.episodes)
+                × LinksWritten (least_pause (content_of log.entry.words.now) a) (linked_to a (graph_of log.entry.words.now).links log.entry.episodes)
                 rest.old rest.new result }
         {
             block_of(log, a, w);
             let marks = &*w;
             let row = a % 64 * 256;
-            write_group(&marks[row..row + log.episodes], a, rest)
+            write_links(&marks[row..row + log.episodes], rest)
         },
     )
 }

@@ -26,6 +26,7 @@ fn fill(bytes: &[u8], words: &mut [u32])
     requires { length bytes.now ≡ 4 * length words.old }
     ensures { words.new ≡ words_of bytes.now }
 {
+    // The place of the bytes is counted out: `zip` beside `iter_mut` leaves the checker without the fact that both are at one place.
     for (i, word) in words.iter_mut().enumerate() {
         *word = word_at(bytes, 4 * i);
     }

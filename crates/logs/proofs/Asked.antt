@@ -1,6 +1,6 @@
 -- The questions word by word: what an answer says of the word, and what it takes to be given one.
 use mathlib.Core.Path.{◌≡◌, refl, ◌∙◌, ap, sym}
-use mathlib.Core.Logic.{◌⊎◌, inl, inr, ◌↔◌}
+use mathlib.Core.Logic.{◌⊎◌, inl, inr, ◌↔◌, ◌≢◌}
 use mathlib.Core.Bool.{Bool, true, false, ◌&&◌, true≢false}
 use mathlib.Core.List.{List}
 use Prim.Native.Nat.{ℕ, ◌+◌, ◌<◌, ◌≤◌}
@@ -11,10 +11,12 @@ use lib.Dec.{ltb, leb, eqb}
 use lib.ListN.{length, get_or, drop, length-drop}
 use lib.Seq.{get_or-drop}
 use borrow.Author.Tests.{lt-ltb, leb-true, ltb-true, eqb-true, eqb-false, eq-eqb, ne_eqb}
-use Rattle.logs.specs.Words.{kind, number, to_episode, to_pause}
+use Rattle.logs.specs.Words.{kind, number, to_episode, to_pause, kind_code}
 use Rattle.logs.specs.Answer.{Answer, given, refused, question, and_then}
 use Rattle.logs.specs.Log.{to_before_last, head_word, group_word, end_word}
 use Rattle.logs.specs.declared.Ceilings.{Ceilings}
+use Rattle.logs.specs.declared.Kind.{Kind}
+use Rattle.logs.specs.declared.Kind.TheVariants.{From, To}
 use Rattle.logs.proofs.Words.{figure_from, figure_to, minutes_from, minutes_to}
 
 -- an answer is not both given and refused
@@ -81,6 +83,9 @@ module _ (m : Ceilings) (n p w : ℕ) (rest : List ℕ) (from : Bool) (t : ℕ) 
   pub group_other : (kind w ≡ 2 → ⊥) → (kind w ≡ 3 → ⊥) → group_word m n p w rest from t ≡ refused 4 p
   unfolding group_word
   group_other no-from no_to = rw (ne_eqb _ _ no-from, ne_eqb _ _ no_to)
+
+  pub group_kindless : ((k : Kind) → kind_code k ≢ kind w) → group_word m n p w rest from t ≡ refused 4 p
+  group_kindless none = group_other (λ e. none From (sym e)) (λ e. none To (sym e))
 
 -- of a from word at a place of the log
 pub from_asked : (m : Ceilings) (l : List ℕ) (n p : ℕ) (from : Bool) (t : ℕ) → kind (get_or l p 0) ≡ 2

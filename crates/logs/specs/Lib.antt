@@ -1,5 +1,6 @@
 -- What the words of a log mean.
 pub mod Words
+pub mod Kinds
 pub mod Answer
 pub mod Content
 pub mod Log

@@ -1,16 +1,19 @@
-// The reading of a log: questions 1 to 10.
+// The reading of a log: questions 1 to 10. `as` stands between u32 and usize, since neither has a `From` for the other, and for an enum's number.
 #![tactic(auto)]
 
 ghost use Rattle.std.specs.Prelude.{◌≡◌, false, ℕ, ◌+◌, ◌^◌, ◌<◌, ◌≤◌, ltb, eqb, List, [], ◌∷◌, ◌++◌, length, get_or, drop, OnOk};
 ghost use Rattle.logs.specs.Words.{kind, number, word, Small, to_episode, to_pause, to_word, kind_code};
+ghost use Rattle.logs.specs.Kinds.{KindOf};
 ghost use Rattle.logs.specs.Answer.{given, question, reason_number, result_answer, numbered, to_figures, word_answer, read_answer};
 ghost use Rattle.logs.specs.Log.{service, to_before_last, head_word, group_word, end_word, questions, graph_of};
 ghost use Rattle.logs.specs.Places.{log_word_at, Stopped};
 ghost use Rattle.logs.specs.Groups.{ToWords, links_before};
 ghost use Rattle.logs.specs.Hear.{Next};
 
+pub mod numbers;
 pub mod passed;
 
+pub use numbers::Numbers;
 pub use passed::{Group, Log};
 use std::error::Error;
 use std::fmt;
@@ -47,6 +50,7 @@ impl Kind {
     pub fn is_of(self, w: u32) -> bool
         ensures { result ≡ eqb (kind w) (kind_code self) }
     {
+        // By its number, as only one kind is asked for.
         kind_of(w) == self.code()
     }
 
@@ -56,6 +60,28 @@ impl Kind {
         ensures { result ≡ word (kind_code self) number }
     {
         self.code() * 0x1000_0000 + number as u32
+    }
+}
+
+// The kind of a word.
+impl TryFrom<u32> for Kind {
+    type Error = Reason;
+
+    ghost try_from_gives = { KindOf };
+
+    fn try_from(w: u32) -> Result<Kind, Reason> {
+        match kind_of(w) {
+            1 => Ok(Kind::Head),
+            2 => Ok(Kind::From),
+            3 => Ok(Kind::To),
+            4 => Ok(Kind::Width),
+            5 => Ok(Kind::Apart),
+            6 => Ok(Kind::Thread),
+            7 => Ok(Kind::Step),
+            8 => Ok(Kind::Loop),
+            15 => Ok(Kind::End),
+            _ => Err(Reason::UnknownKind),
+        }
     }
 }
 
@@ -202,6 +228,7 @@ pub fn group_end(log: &[u32], start: usize) -> usize
     ensures { ToWords log.now start result × (to_before_last log.now result ≡ false) }
 {
     let last = log.len() - 1;
+    // `position` and `map_or` would want the laws of both, and a proof by cases, where this wants an invariant of one line.
     for (k, w) in log[start..last].iter().enumerate() {
         if !Kind::To.is_of(*w) {
             return start + k;
@@ -292,23 +319,23 @@ impl<'a> Questions<'a> {
         Ok(to)
     }
 
-    // Questions 4 to 8, of the word at `at`, which is neither the head nor the last.
-    #[tactic(auto, using(crate::proofs::Asked::from_asked, crate::proofs::Asked::group_to, crate::proofs::Asked::group_other))]
+    // Questions 4 to 8, of the word at `at`, which is neither the head nor the last. Whether a from word came before it is asked of the caller: what
+    // is promised holds of either, at each place.
+    #[tactic(auto, using(crate::proofs::Asked::from_asked, crate::proofs::Asked::group_to, crate::proofs::Asked::group_other, crate::proofs::Asked::group_kindless))]
     pub fn group_word(self, at: usize, from: bool, count: usize) -> Result<LogWord, Refusal>
         requires { at + 1 < length self.log.now }
         ensures { word_answer result ≡ group_word self.entry.most self.entry.n at (get_or self.entry.log.now at 0) (drop (at + 1) self.entry.log.now) from count }
     {
         let w = self.log[at];
-        if Kind::From.is_of(w) {
-            return Ok(LogWord::From(self.from_word(at, number_of(w))?));
-        }
-        if !Kind::To.is_of(w) {
+        let Ok(kind) = Kind::try_from(w) else {
             return Err(Reason::UnknownKind.at(at));
+        };
+        match kind {
+            Kind::From => Ok(LogWord::From(self.from_word(at, number_of(w))?)),
+            Kind::To if from => Ok(LogWord::To(self.to_word(at, w, count)?)),
+            Kind::To => Err(Reason::ToBeforeFrom.at(at)),
+            _ => Err(Reason::UnknownKind.at(at)),
         }
-        if !from {
-            return Err(Reason::ToBeforeFrom.at(at));
-        }
-        Ok(LogWord::To(self.to_word(at, w, count)?))
     }
 
     // Questions 4 to 10, of the word at `at` behind the head. Behind the log stands no end.

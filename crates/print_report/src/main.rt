@@ -32,10 +32,11 @@ fn asked<'a>(bytes: &[u8], words: &'a mut [u32]) -> Result<Passed<'a>, Refusal> 
 fn report_on(rt: &impl Print, passed: Passed) -> io::Result<()> {
     let mut out = [0u32; report::REPORT_WORDS];
     let mut work = [0u32; report::WORK_WORDS];
-    match report::report(passed.log, &mut out, &mut work) {
+    let outcome = report::report(passed.log, &mut out, &mut work);
+    match outcome {
         Outcome::Report(count) => show::report(rt, passed.episodes, passed.links, &out[..count]),
         Outcome::Loop(length) => show::cycle(rt, &out[1..=length]),
-        Outcome::Refused(number, place) => println!(rt; "refused {number} at {place}"),
+        Outcome::Refused(..) => println!(rt; "{outcome}"),
     }
 }
 

@@ -1,23 +1,6 @@
 // What is printed: lines on standard output, with one space before each figure.
-use logs::{Kind, Reason};
-use std::{fmt, io};
-
-// The numbers of the words of a kind, with one space before each.
-#[derive(Clone, Copy)]
-struct Numbers<'a> {
-    kind: Kind,
-    words: &'a [u32],
-}
-
-impl fmt::Display for Numbers<'_> {
-    fn fmt<W: fmt::Write>(&self, f: &mut fmt::Formatter<W>) -> fmt::Result {
-        let kind = self.kind;
-        for w in self.words.iter().filter(|w| kind.is_of(**w)) {
-            write!(f, " {}", logs::number_of(*w))?;
-        }
-        Ok(())
-    }
-}
+use logs::{Kind, Numbers, Reason};
+use std::io;
 
 // A line of a name, and the numbers of the words of a kind.
 fn line(rt: &impl Print, name: &str, kind: Kind, words: &[u32]) -> io::Result<()> {

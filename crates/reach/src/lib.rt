@@ -1,4 +1,5 @@
-// Who has a way to whom: the links of a log as a matrix of bits, and its closure. The steps take the words of both matrices alone.
+// Who has a way to whom: the links of a log as a matrix of bits, and its closure. The steps take the words of both matrices alone; what is public
+// takes longer words too, so its contract says that these are within them.
 #![tactic(auto)]
 
 ghost use Rattle.std.specs.Prelude.{◌≡◌, true, false, ◌+◌, ◌*◌, ◌<◌, ◌≤◌, IfSome, length};
@@ -11,7 +12,8 @@ ghost use Rattle.reach.specs.Reach.{ReachedLog, FirstLoop, episode_or};
 use bits::{LINKS, NEXT, WAYS};
 use logs::{Group, Log, ToWord};
 
-// Marks the links of a group in the row of its episode.
+// Marks the links of a group in the row of its episode. As in `copying`, but for what is done at each to word: a trait for that would be longer than
+// both.
 fn mark_group(group: Group, w: &mut [u32; NEXT])
     requires { (group.from < 256) × EpisodesBelow 256 group.to_words.now }
     ensures { GroupMarked group.entry.from group.entry.to_words.now w.old w.new }
@@ -40,7 +42,7 @@ fn copy_links(w: &mut [u32; NEXT])
     ways.copy_from_slice(links);
 }
 
-// Where `a` has a way to `k`, gives it the ways of `k`, which are `ways`.
+// Where `a` has a way to `k`, gives it the ways of `k`, which are `ways`. Another joining than that of `rising`: a row by itself, into the matrix.
 fn close_row(w: &mut [u32; NEXT], a: usize, k: usize, ways: &[u32; 8])
     requires { (a < 256) × (k < 256) × HoldsWays w.old k ways.now }
     ensures { RowClosed w.old w.new a k }
@@ -101,11 +103,5 @@ pub fn first_loop(w: &[u32], n: usize) -> Option<usize>
     ensures first { FirstLoop w.now n (episode_or n result) }
     ensures below { IfSome result (λ v. v < n) }
 {
-    // `find` takes an instruction more for each episode.
-    for v in 0..n {
-        if bits::bit_at(w, WAYS + 8 * v, v) {
-            return Some(v);
-        }
-    }
-    None
+    (0..n).find(|v| bits::bit_at(w, WAYS + 8 * *v, *v))
 }

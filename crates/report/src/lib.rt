@@ -2,6 +2,7 @@
 #![tactic(auto)]
 
 ghost use Rattle.std.specs.Prelude.{◌≡◌, List, ℕ, ◌+◌, ◌<◌, ◌≤◌, IfOk, length, replicate};
+ghost use Rattle.std.specs.Borrow.{MutBor};
 ghost use Rattle.paths.specs.Graph.{Graph, Loop};
 ghost use Rattle.logs.specs.Answer.{given, result_answer, reason_number};
 ghost use Rattle.logs.specs.Log.{service, graph_of, PassesWith};
@@ -11,6 +12,7 @@ ghost use Rattle.report.specs.Solving.{Ready, LoopSought, Answered};
 
 use bits::{USED, WAYS};
 use logs::{Ceilings, Log, Reason, Refusal};
+use std::fmt;
 
 // The work words that a caller lends.
 pub const WORK_WORDS: usize = 16384;
@@ -34,6 +36,16 @@ impl From<Refusal> for Outcome {
 
     fn from(refusal: Refusal) -> Outcome {
         Outcome::Refused(refusal.number(), refusal.place)
+    }
+}
+
+impl fmt::Display for Outcome {
+    fn fmt<W: fmt::Write>(&self, f: &mut fmt::Formatter<W>) -> fmt::Result {
+        match *self {
+            Outcome::Report(words) => write!(f, "count {words}"),
+            Outcome::Loop(length) => write!(f, "{}", Reason::Loop.at(length)),
+            Outcome::Refused(number, place) => write!(f, "refused {number} at {place}"),
+        }
     }
 }
 
@@ -101,6 +113,25 @@ pub fn prepare(log: Log, w: &mut [u32; WORK_WORDS])
     reach::reachability(log, w);
 }
 
+// What `answer` gives for n and the output, from the links and the ways of a log in work words of which none is left as it was.
+pub fn solve<R, F: FnOnce(usize, &mut [u32], &mut [u32]) -> R>(
+    log: Log,
+    out: &mut [u32],
+    w: &mut [u32; WORK_WORDS],
+    answer: F,
+) -> R
+    requires { (log.episodes < 256) × ((o v : MutBor (List ℕ)) → o.now ≡ out.old → Ready (graph_of log.words.now) log.episodes v.now
+        → F.pre answer log.episodes o v) }
+    ensures answered { (o v o' v' : MutBor (List ℕ)) × (o.now ≡ out.old) × Ready (graph_of log.entry.words.now) log.entry.episodes v.now
+        × F.post answer log.entry.episodes o v result o' v' × (out.new ≡ o'.now) }
+    ensures cleared { w.new ≡ replicate work_words 0 }
+{
+    prepare(log, w);
+    let result = answer(log.episodes, out, w);
+    bits::clear(w);
+    result
+}
+
 // Writes a loop, from the links and the ways in the work words, and gives its length, where there is one.
 pub fn show_loop(n: usize, out: &mut [u32], w: &mut [u32]) -> Option<usize>
     requires { (g : Graph) × Ready g n w.old × ((c : List ℕ) → Loop g c → length c + 1 ≤ length out.old) }
@@ -124,18 +155,7 @@ fn answer(n: usize, out: &mut [u32], w: &mut [u32]) -> Outcome
     Outcome::Report(writing::write_report(w, n, out))
 }
 
-// The report or the loop of a log, in work words of which none is left as it was.
-fn solve(log: Log, out: &mut [u32], w: &mut [u32; WORK_WORDS]) -> Outcome
-    requires { (log.episodes < 256) × (report_need log.episodes ≤ length out.old) }
-    ensures { Answered (graph_of log.entry.words.now) out.old out.new result × (w.new ≡ replicate work_words 0) }
-{
-    prepare(log, w);
-    let outcome = answer(log.episodes, out, w);
-    bits::clear(w);
-    outcome
-}
-
-// The report at a caller's ceilings.
+// The report at a caller's ceilings. As in both copies, questions and then an answer: one function of both would be as long as all three.
 #[tactic(auto, using(crate::proofs::Calls::passed, crate::proofs::Calls::left_denied))]
 fn report_within(most: Ceilings, log: &[u32], out: &mut [u32], work: &mut [u32]) -> Outcome
     requires { most.episodes < 256 }
@@ -143,7 +163,7 @@ fn report_within(most: Ceilings, log: &[u32], out: &mut [u32], work: &mut [u32])
 {
     match report_asked(most, log, out.len(), work.len()) {
         Err(refusal) => Outcome::from(refusal),
-        Ok(log) => solve(log, out, work.first_chunk_mut().unwrap()),
+        Ok(log) => solve(log, out, work.first_chunk_mut().unwrap(), answer),
     }
 }
 

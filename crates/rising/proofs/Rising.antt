@@ -1,37 +1,74 @@
 -- Links that rise: the ways from one episode, of those from the episodes above it; and so from the last episode to the first.
-use mathlib.Core.Path.{◌≡◌, sym, ◌∙◌}
+use mathlib.Core.Path.{◌≡◌, refl, sym, subst, ◌∙◌}
 use mathlib.Core.Logic.{◌⊎◌, inl, inr}
 use mathlib.Core.List.{List}
-use Prim.Native.Nat.{ℕ, ◌+◌, ◌-◌, ◌*◌, ◌/◌, ◌%◌, ◌≤◌, ◌<◌}
+use Prim.Native.Nat.{ℕ, ◌+◌, ◌-◌, ◌*◌, ◌/◌, ◌≤◌, ◌<◌}
 use native.Mathlib.Decide.{ℕ_discrete, dec_lt}
 use native.Mathlib.Omega.{arith}
-use lib.ListN.{length, get_or, set}
-use lib.Seq.{get_or-set_same, get_or-set_other}
+use borrow.Rule.Slice.PartMut.{put_mid}
+use lib.ListN.{length}
 use Rattle.paths.specs.Graph.{Graph, EndsBelow, Link, Way, one, step}
 use Rattle.paths.proofs.Ways.{way_trans, way_first}
 use Rattle.std.specs.Prelude.{Option, Some, None, IfSome}
 use Rattle.std.specs.Option.{is_some}
-use mathlib.Core.Bool.{true, true≢false}
-use Rattle.bits.specs.Bits.{digit, bit, BitSet, RowJoined, FirstBit, NextNew, place_or_end}
+use mathlib.Core.Bool.{Bool, true, false, true≢false}
+use lib.Dec.{ltb}
+use borrow.Author.Tests.{ltb-true, ltb-false}
+use Rattle.std.specs.Bool.{MatchBool}
+use Rattle.std.specs.List.{AllWithin, HoldsAt, range_with_len}
+use Rattle.std.proofs.lemmas.List.FromFn.{length-range_with_len, get_or-range_with_len}
+use Rattle.bits.specs.Bits.{bit, BitSet, RowJoined, RowLess, FirstBit, NextNew, place_or_end}
 use Rattle.bits.specs.Work.{links_at, ways_at, Matrix, Outside, next_at}
-use Rattle.bits.proofs.Rows.{bit_lt, bits_zero, new_bit}
-use Rattle.bits.proofs.Frames.{outside_none, outside_more, outside_then, outside_wider, set_outside, joined_outside}
+use Rattle.bits.proofs.Rows.{bit_lt, bits_zero, bit_less, new_bit}
+use Rattle.bits.proofs.Parts.{put_length, put_before, put_behind, bit_put}
+use Rattle.bits.proofs.Frames.{outside_none, outside_then, outside_wider, set_outside, joined_outside}
 use Rattle.bits.proofs.Frames.{bit_before, matrix_before, row_other}
-use Rattle.rising.specs.Rising.{NoWays, BitsRise, LinksRise, WayFrom, EndsTaken, LinkedFrom, RowReached, LinkNoted, RisingReached}
+use Rattle.rising.specs.Rising.{NoWays, RowTest, RiseTest, LinksRise, WayFrom, EndsTaken, LinkedFrom, RowReached, LinkNoted, RisingReached}
 
 -- ---- whether links rise
 
--- one row more, whose first bit is that of a higher number
-pub rise_more : (w : List ℕ) (a r : ℕ) → BitsRise w a → FirstBit w (links_at + 8 * a) r → a < r → BitsRise w (a + 1)
-rise_more w a r s f h x b hx hb o = go (ℕ_discrete x a) (dec_lt b r)
+-- a row rises where its first bit is that of a higher number, and where it has none
+row_none : {w : List ℕ} {a : ℕ} → FirstBit w (links_at + 8 * a) 256 → RowTest w a true
+row_none f = record { all = λ e b h o. let z = f.none b h in absurd (omega arith); not_all = λ e. absurd (true≢false e) }
+
+row_first : {w : List ℕ} {a b : ℕ} {r : Bool} → FirstBit w (links_at + 8 * a) b → b < 256 → r ≡ ltb a b → RowTest w a r
+row_first {w} {a} {b} {r} f h e =
+    record {
+      all = λ t c hc o. let lo : a < b = ltb-true a b (sym e ∙ t) in let none = f.none c in omega (arith, at_first c o);
+      not_all = λ t. let hi : b ≤ a = ltb-false a b (sym e ∙ t) in (b, h, f.here h, hi);
+    }
   where
-    go : Dec (x ≡ a) → Dec (b < r) → x < b
-    go (no ne) d = s x b (omega (arith, ne)) hb o
-    go (yes e) (no l) = omega arith
-    go (yes e) (yes l) =
-        let z : bit w (links_at + 8 * a) b ≡ 0 = f.none b l in
-        let i : bit w (links_at + 8 * a) b ≡ 1 = rw e at o in
-        absurd (omega arith)
+    at_first : (c : ℕ) → bit w (links_at + 8 * a) c ≡ 1 → b ≤ c
+    at_first c o = go (dec_lt c b)
+      where
+        go : Dec (c < b) → b ≤ c
+        go (yes l) = let z = f.none c l in absurd (omega arith)
+        go (no l) = omega arith
+
+pub row_test : {w : List ℕ} {a : ℕ} (o : Option ℕ) (r : Bool) → FirstBit w (links_at + 8 * a) (place_or_end o) → IfSome o (λ b. b < 256)
+    → (o ≡ None → r ≡ true) → ((b : ℕ) → o ≡ Some b → r ≡ ltb a b) → RowTest w a r
+row_test {w} {a} None r f below none some = subst (RowTest w a) (sym (none refl)) (row_none f)
+row_test (Some b) r f below none some = row_first f below (some b refl)
+
+-- the first `n` rows rise where each of them does
+pub rise_test : {w : List ℕ} {n : ℕ} (r : Bool)
+    → MatchBool r (AllWithin (λ a. RowTest w a true) (range_with_len 0 n) 0 (length (range_with_len 0 n)))
+    ((k : ℕ) × (k < length (range_with_len 0 n)) × HoldsAt (λ a. RowTest w a false) (range_with_len 0 n) k) → RiseTest w n r
+rise_test {w} {n} true rows =
+    record {
+      all = λ e a b ha hb o. (row a ha).all refl b hb o;
+      not_all = λ e. absurd (true≢false e);
+    }
+  where
+    row : (a : ℕ) → a < n → RowTest w a true
+    row a h =
+        subst (λ (k : ℕ). RowTest w k true) (get_or-range_with_len 0 n a 0 h ∙ omega arith)
+        (rows a 0 (omega arith) (omega (arith, length-range_with_len 0 n)))
+rise_test {w} {n} false (k, h, row) =
+    let below : k < n = omega (arith, length-range_with_len 0 n) in
+    let here : RowTest w k false = subst (λ (a : ℕ). RowTest w a false) (get_or-range_with_len 0 n k 0 below ∙ omega arith) (row 0) in
+    let (b, hb, o, falls) = here.not_all refl in
+    record { all = λ e. absurd (true≢false (sym e)); not_all = λ e rise. let lo = rise k b below hb o in omega arith }
 
 -- ---- the ways from one episode, without code
 
@@ -82,51 +119,29 @@ reaching_end rise h r c hc (step {a = a} {b = d} l w) =
 
 -- ---- links to episodes without links
 
--- `x` has the digits that `y` has and `z` has not
-abbrev Ends : ℕ → ℕ → ℕ → Type 0
-Ends x y z = (d : ℕ) → digit x d ≡ digit y d - digit z d
+-- `ends` has the links of `a` to those that are not in `linked`; `k` is 8 where they are put in place of a row
+pub ends_taken : {w linked ends : List ℕ} {a links ways : ℕ} (k : ℕ) → k ≡ 8 → RowLess w links linked ends → ways + 8 ≤ length w
+    → links ≡ links_at + 8 * a → ways ≡ ways_at + 8 * a → EndsTaken w (put_mid ways k w ends) a linked
+ends_taken {w} {linked} {ends} {a} {links} {ways} k eight s fits p q =
+    record {
+      outside = rw (← q) out;
+      sound = λ c hc o. new_bit w linked (links_at + 8 * a) 0 c (sym (bits c hc) ∙ o);
+      complete = λ c hc o z. omega (arith, bits c hc);
+    }
+  where
+    many : length ends ≡ k
+    many = s.eight ∙ sym eight
 
--- The first `i` words of the row at `ways` are those of the row at `links`, without those of `linked`.
-pub record Taking (w w' : List ℕ) (links ways : ℕ) (linked : List ℕ) (i : ℕ) : Type 0 where
-  pub outside : Outside ways (ways + 8) w w'
-  pub at_most : i ≤ 8
-  pub words : (j : ℕ) → j < i → Ends (get_or w' (ways + j) 0) (get_or w (links + j) 0) (get_or linked j 0)
+    out : Outside ways (ways + 8) w (put_mid ways k w ends)
+    out =
+        record {
+          same_length = put_length ways k w ends (omega arith) many;
+          before = put_before ways k w ends (omega arith) many;
+          behind = λ i h. put_behind ways k w ends (omega arith) many i (omega arith);
+        }
 
-pub taking_start : (w : List ℕ) (links ways : ℕ) (linked : List ℕ) → Taking w w links ways linked 0
-taking_start w links ways linked =
-    record { outside = outside_none ways (ways + 8) w; at_most = omega arith; words = λ j h. absurd (omega arith) }
-
-module _ {w w' : List ℕ} {links ways : ℕ} {linked : List ℕ} {i : ℕ} (s : Taking w w' links ways linked i) where
-  pub taking_on : (x : ℕ) → Ends x (get_or w' (links + i) 0) (get_or linked i 0) → links + 8 ≤ ways → ways + 8 ≤ length w → i < 8
-      → Taking w (set w' (ways + i) x) links ways linked (i + 1)
-  taking_on x ends apart fits hi =
-      record {
-        outside = outside_more (ways + i) x (omega arith) (omega arith) s.outside;
-        at_most = omega arith;
-        words = λ j h. words j h (ℕ_discrete j i);
-      }
-    where
-      words : (j : ℕ) → j < i + 1 → Dec (j ≡ i) → Ends (get_or (set w' (ways + i) x) (ways + j) 0) (get_or w (links + j) 0) (get_or linked j 0)
-      words j h (yes e) =
-          let same : get_or w' (links + i) 0 ≡ get_or w (links + i) 0 = s.outside.before (links + i) (omega arith) in
-          rw (e, get_or-set_same w' (ways + i) x 0 (omega (arith, s.outside.same_length))) (rw same at ends)
-      words j h (no ne) = rw (get_or-set_other w' (ways + i) (ways + j) x 0 (λ e. ne (omega arith))) (s.words j (omega (arith, ne)))
-
-  -- the rows of `a`
-  pub taking_end : 8 ≤ i → (a : ℕ) → links ≡ links_at + 8 * a → ways ≡ ways_at + 8 * a → EndsTaken w w' a linked
-  unfolding bit
-  taking_end h a p q =
-      record {
-        outside = rw q at s.outside;
-        sound = λ c hc o. new_bit w linked (links_at + 8 * a) 0 c (sym (bits c hc) ∙ o);
-        complete = λ c hc o z. omega (arith, bits c hc);
-      }
-    where
-      bits : (c : ℕ) → c < 256 → bit w' (ways_at + 8 * a) c ≡ bit w (links_at + 8 * a) c - bit linked 0 c
-      bits c hc =
-          let e : 0 + c / 32 ≡ c / 32 = omega arith in
-          let d : bit w' ways c ≡ bit w links c - bit linked 0 c = rw e (s.words (c / 32) (omega arith) (c % 32)) in
-          rw (p, q) at d
+    bits : (c : ℕ) → c < 256 → bit (put_mid ways k w ends) (ways_at + 8 * a) c ≡ bit w (links_at + 8 * a) c - bit linked 0 c
+    bits c hc = rw (← q) (bit_put w k eight ways ends fits many c hc ∙ rw p at (bit_less s c hc))
 
 -- ---- the ways from one episode, in words
 

@@ -12,7 +12,12 @@ NoWays w = (i : ℕ) → ways_at ≤ i → i < next_at → get_or w i 0 ≡ 0
 abbrev pub BitsRise : List ℕ → ℕ → Type 0
 BitsRise w n = (a b : ℕ) → a < n → b < 256 → bit w (links_at + 8 * a) b ≡ 1 → a < b
 
--- whether it is
+-- whether it is so in row `a`
+pub record RowTest (w : List ℕ) (a : ℕ) (r : Bool) : Type 0 where
+  pub all : r ≡ true → (b : ℕ) → b < 256 → bit w (links_at + 8 * a) b ≡ 1 → a < b
+  pub not_all : r ≡ false → (b : ℕ) × (b < 256) × (bit w (links_at + 8 * a) b ≡ 1) × (b ≤ a)
+
+-- whether it is so in all of them
 pub record RiseTest (w : List ℕ) (n : ℕ) (r : Bool) : Type 0 where
   pub all : r ≡ true → BitsRise w n
   pub not_all : r ≡ false → BitsRise w n → ⊥

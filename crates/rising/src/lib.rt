@@ -1,37 +1,37 @@
-// The ways of links that rise: from the last episode to the first. The steps take the words of the links and the ways alone.
+// The ways of links that rise: from the last episode to the first. The steps take the words of the links and the ways alone; what is public takes
+// longer words too, so its contract says that these are within them.
 #![tactic(auto)]
 
 ghost use Rattle.std.specs.Prelude.{◌≡◌, ℕ, ◌+◌, ◌*◌, ◌<◌, ◌≤◌, length};
 ghost use Rattle.bits.specs.Work.{links_at, ways_at, next_at};
-ghost use Rattle.rising.specs.Rising.{NoWays, RiseTest, EndsTaken, RowReached, LinkNoted, RisingReached};
+ghost use Rattle.rising.specs.Rising.{NoWays, RowTest, RiseTest, EndsTaken, RowReached, LinkNoted, RisingReached};
 
 use bits::{LINKS, NEXT, WAYS};
+
+// Whether each link of `a` goes to a higher number.
+fn row_rises(w: &[u32], a: usize) -> bool
+    requires { (next_at ≤ length w.now) × (a < 256) }
+    ensures { RowTest w.now a result }
+{
+    bits::first_bit(w, LINKS + 8 * a).is_none_or(|b| a < b)
+}
 
 // Whether each link goes to a higher number.
 pub fn rises(w: &[u32], n: usize) -> bool
     requires { (next_at ≤ length w.now) × (n ≤ 256) }
     ensures { RiseTest w.now n result }
 {
-    // `all` would want lemmas on the list of a range, where this wants an invariant of one line.
-    for a in 0..n {
-        if let Some(b) = bits::first_bit(w, LINKS + 8 * a)
-            && b <= a
-        {
-            return false;
-        }
-    }
-    true
+    (0..n).all(|a| row_rises(w, a))
 }
 
 // Gives the ways of an episode, which start at word `ways`, its links to episodes that are not in `linked`; its links start at word `links`.
 fn take_ends(w: &mut [u32; NEXT], links: usize, ways: usize, linked: &[u32; 8])
-    requires { (links + 8 ≤ ways) × (ways + 8 ≤ next_at) }
+    requires { (links + 8 ≤ next_at) × (ways + 8 ≤ next_at) }
     ensures { (a : ℕ) → links ≡ links_at + 8 * a → ways ≡ ways_at + 8 * a
         → EndsTaken w.old w.new a linked.now }
 {
-    for (i, old) in linked.iter().enumerate() {
-        w[ways + i] = bits::without(w[links + i], *old);
-    }
+    let ends = bits::row_without(w, links, linked);
+    w[ways..ways + 8].copy_from_slice(&ends);
 }
 
 // Gives `a` its ways, where links rise, all above `a` have theirs, and those of them that have links are in `linked`: first the links to
@@ -43,6 +43,7 @@ fn reach_row(w: &mut [u32; NEXT], a: usize, linked: &[u32; 8])
     let links = LINKS + 8 * a;
     let ways = WAYS + 8 * a;
     take_ends(w, links, ways, linked);
+    // By place: each turn changes the words that the next one reads, so no iterator can hold them.
     let mut from = a + 1;
     while let Some(b) = bits::next_new(w, links, ways, from) {
         bits::set_bit(w, ways, b);

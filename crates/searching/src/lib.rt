@@ -1,4 +1,6 @@
-// Chains of items in the work words, and an augmenting search from the end of one of them.
+// Chains of items in the work words, and an augmenting search from the end of one of them. The tables stand in lent words, since nothing is
+// allocated. `w, base, m, a` go together: a struct of them was tried and was longer, since `search` takes them one by one. `as` stands between
+// u32 and usize, since neither has a `From` for the other.
 #![tactic(auto)]
 
 ghost use Rattle.std.specs.Prelude.{◌≡◌, ◌<◌, ◌≤◌, length, get_or, unwrap_or, IfSome};
@@ -70,6 +72,7 @@ fn show(w: &mut [u32], base: usize, m: usize, head: usize, tail: usize) -> Contr
     ensures { ShownAs w.old w.new base m head result }
 {
     let row = base + 8 * w[QUEUE + head] as usize;
+    // By place: each turn changes the words that the next one reads, so no iterator can hold them.
     let mut end = tail;
     let mut next = bits::next_new(w, row, SEEN, 0);
     while let Some(b) = next

@@ -34,21 +34,21 @@ pub fn find_thread(report: &[u32], i: usize) -> Result<Stretch, Refusal>
     Ok(Stretch { start, end })
 }
 
-// The number with which `find_thread` refuses thread `i`, or 0 where it finds it.
+// The number with which `find_thread` refuses thread `i`, or 0 where it finds it: a number alone, for callers that want no place.
 pub fn thread_number(report: &[u32], i: usize) -> u32
     ensures { ThreadNumber report.now i result }
 {
     find_thread(report, i).map_or_else(|refusal| refusal.number(), |_| 0)
 }
 
-// The stretch of thread `i`, empty where `find_thread` refuses.
+// The stretch of thread `i`, empty where `find_thread` refuses, as the scope asks.
 pub fn thread_stretch(report: &[u32], i: usize) -> Stretch
     ensures { ThreadStretch report.now i result.start result.end }
 {
     find_thread(report, i).unwrap_or(Stretch { start: 0, end: 0 })
 }
 
-// The steps of thread `i` as a part of the report's words, empty where `find_thread` refuses.
+// The steps of thread `i` as a part of the report's words, empty where `find_thread` refuses, as the scope asks.
 pub fn thread_steps(report: &[u32], i: usize) -> &[u32]
     ensures { ThreadSteps report.now i result.now }
 {

@@ -81,6 +81,7 @@ fn call(service: Service, text: &[u8]) -> Option<(Asked, &[u8])> {
 // What is asked before the colon of a line, and the name behind it.
 fn asked_by(head: &[u8]) -> Option<(Asked, &[u8])> {
     let (word, rest) = split_once(head, b' ')?;
+    // A table of functions would have to make them alike first.
     match word {
         b"read" => Some((Asked::Reading, rest)),
         b"links" => Some((Asked::Links, rest)),

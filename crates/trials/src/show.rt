@@ -2,7 +2,7 @@
 ghost use Rattle.std.specs.Prelude.{◌≤◌};
 ghost use Rattle.report.specs.declared.TheConstants.{REPORT_WORDS};
 
-use logs::{Reading, Reason, Refusal};
+use logs::{Kind, Numbers, Reading, Reason, Refusal};
 use report::{Outcome, REPORT_WORDS, WORK_WORDS};
 use std::{fmt, io};
 
@@ -143,11 +143,8 @@ impl fmt::Display for Thread<'_> {
         if let Err(refusal) = threads::find_thread(self.report, self.i) {
             return write!(f, "refused {}{}", refusal.number(), Strays(steps.len()));
         }
-        f.write_str("thread")?;
-        for w in steps {
-            write!(f, " {}", logs::number_of(*w))?;
-        }
-        Ok(())
+        let kind = Kind::Step;
+        write!(f, "thread{}", Numbers { kind, words: steps })
     }
 }
 
@@ -202,7 +199,7 @@ fn copied(answer: Result<usize, Refusal>) -> Outcome {
     }
 }
 
-// The outcome of a call of the service.
+// The outcome of a call of the service. By `match`, since the three answer in two types.
 fn ask(service: Service, log: &[u32], out: &mut [u32], work: &mut [u32]) -> Outcome {
     match service {
         Service::Report => report::report(log, out, work),
@@ -231,13 +228,13 @@ fn write_outcome(
         }
         Outcome::Loop(length) => {
             let written = Written::first(out, length.saturating_add(1));
-            print!(rt; "{}, {written}", Reason::Loop.at(length))?;
+            print!(rt; "{outcome}, {written}")?;
             write_cleared(rt, scratch)
         }
-        Outcome::Refused(number, place) => {
+        Outcome::Refused(..) => {
             let outs = Strays::among(out, MARK);
             let works = Strays::among(scratch, MARK);
-            print!(rt; "refused {number} at {place}{outs}{works}")
+            print!(rt; "{outcome}{outs}{works}")
         }
     }
 }
@@ -275,9 +272,6 @@ fn enough(service: Service) -> usize
 fn outcome(rt: &impl Print, service: Service, log: &[u32]) -> io::Result<()> {
     let mut out = [MARK; REPORT_WORDS];
     let mut work = [MARK; WORK_WORDS];
-    match ask(service, log, &mut out[..enough(service)], &mut work) {
-        Outcome::Report(count) => print!(rt; "count {count}"),
-        Outcome::Loop(length) => print!(rt; "{}", Reason::Loop.at(length)),
-        Outcome::Refused(number, place) => print!(rt; "refused {number} at {place}"),
-    }
+    let outcome = ask(service, log, &mut out[..enough(service)], &mut work);
+    print!(rt; "{outcome}")
 }

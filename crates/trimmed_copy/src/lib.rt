@@ -1,16 +1,14 @@
 // The trimmed copy of a log.
 #![tactic(auto)]
 
-ghost use Rattle.std.specs.Prelude.{◌≡◌, ◌<◌, length, replicate};
+ghost use Rattle.std.specs.Prelude.{◌<◌, length};
 ghost use Rattle.paths.specs.Graph.{Graph};
-ghost use Rattle.logs.specs.Log.{service, graph_of};
-ghost use Rattle.report.specs.Report.{work_words};
+ghost use Rattle.logs.specs.Log.{service};
 ghost use Rattle.report.specs.Solving.{Ready};
 ghost use Rattle.trimmed_copy.specs.Trimmed.{TrimLeft};
 ghost use Rattle.trimmed_copy.specs.Answering.{Room, TrimAnswered};
 
-use logs::{Ceilings, Log, Reason, Refusal};
-use report::WORK_WORDS;
+use logs::{Ceilings, Reason, Refusal};
 
 // The trimmed copy or the loop, from the links and the ways in the work words.
 fn answer(n: usize, out: &mut [u32], w: &mut [u32]) -> Result<usize, Refusal>
@@ -22,19 +20,6 @@ fn answer(n: usize, out: &mut [u32], w: &mut [u32]) -> Result<usize, Refusal>
         return Err(Reason::Loop.at(length));
     }
     Ok(trimming::write_trimmed(w, n, out))
-}
-
-// The trimmed copy or the loop of a log, in work words of which none is left as it was. As in `report`, with another answer: one function for both
-// would have the contract of `answer` for a closure.
-fn solve(log: Log, out: &mut [u32], w: &mut [u32; WORK_WORDS]) -> Result<usize, Refusal>
-    requires { (log.episodes < 256) × Room (graph_of log.words.now) (length out.old) }
-    ensures { TrimAnswered (graph_of log.entry.words.now) out.old out.new result
-        × (w.new ≡ replicate work_words 0) }
-{
-    report::prepare(log, w);
-    let outcome = answer(log.episodes, out, w);
-    bits::clear(w);
-    outcome
 }
 
 // The trimmed copy at a caller's ceilings.
@@ -49,7 +34,7 @@ fn trimmed_copy_within(
     ensures { TrimLeft most log.now out.old work.old out.new work.new result }
 {
     let log = fair_copy::copy_asked(most, log, out.len(), work.len())?;
-    solve(log, out, work.first_chunk_mut().unwrap())
+    report::solve(log, out, work.first_chunk_mut().unwrap(), answer)
 }
 
 // The trimmed copy of a log, at the service's ceilings: the count of its words, which stay in the lent output, as those of a loop do.

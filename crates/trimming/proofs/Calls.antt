@@ -6,7 +6,7 @@ use native.Mathlib.Omega.{arith}
 use Rattle.std.proofs.Common.{Bor, MutBor}
 use Rattle.paths.specs.Graph.{Graph}
 use Rattle.copying.specs.FairCopy.{linked_to}
-use Rattle.copying.specs.Copying.{GroupWritten}
+use Rattle.copying.specs.Copying.{LinksWritten}
 use Rattle.copying.specs.Calls.{RoomFor, WritesGroups}
 use Rattle.copying.proofs.Calls.{writes_groups}
 use Rattle.trimming.specs.TrimmedCopy.{trimmed, no_pause}
@@ -28,7 +28,7 @@ pub record Asked (f : Carried) (a : ℕ) (o : List ℕ) : Type 0 where
 pub record Left (f : Carried) (a : ℕ) (o : List ℕ) (r : ℕ) (o' : List ℕ) (f' : Carried) : Type 0 where
   pub work : f'.0.now ≡ f.0.now
   pub count : f'.1.now ≡ f.1.now
-  pub group : (g : Graph) → Held g f.1.now f.0.now → GroupWritten a (no_pause a) (linked_to a (trimmed g).links f.1.now) o o' r
+  pub links : (g : Graph) → Held g f.1.now f.0.now → LinksWritten (no_pause a) (linked_to a (trimmed g).links f.1.now) o o' r
 
 pub count_kept : {g : Graph} {n : ℕ} {w : List ℕ} → Held g n w → (trimmed g).n ≡ n
 count_kept {g} held = (trimmed_is g).episodes ∙ held.count
@@ -45,5 +45,5 @@ trimmed_groups pre step may leave f g held =
     may a e o (record { graph = g; held = rw (s.0, s.1) held; below = omega arith; room = rw (s.1, ← count) room }))
     (λ a r e e' o o' h s room d.
     let left = leave a r e e' o o' d in
-    ((left.work ∙ s.0, left.count ∙ s.1), rw (s.1, ← count) at (left.group g (rw (s.0, s.1) held))))
+    ((left.work ∙ s.0, left.count ∙ s.1), rw (s.1, ← count) at (left.links g (rw (s.0, s.1) held))))
     f (refl, refl)

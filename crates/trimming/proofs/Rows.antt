@@ -18,14 +18,14 @@ use Rattle.paths.proofs.Passing.{passing_more, passing_le, passing_below, passin
 use Rattle.paths.proofs.Trimming.{stays_direct, direct_stays, trimmed_ends}
 use Rattle.logs.specs.Words.{word}
 use Rattle.logs.proofs.Words.{to_unpaused_lem}
-use Rattle.bits.specs.Bits.{digit, bit}
+use Rattle.bits.specs.Bits.{digit, bit, RowLess}
 use Rattle.bits.specs.Ones.{LowestTaken}
 use Rattle.bits.specs.Work.{links_at}
 use Rattle.bits.proofs.Digits.{Rest, rest_here, rest_least, rest_none, rest_end}
 use Rattle.bits.proofs.Rows.{bit_lt, new_word}
 use Rattle.writing.proofs.Listing.{Listing, listing_more, listing_skip}
-use Rattle.copying.specs.FairCopy.{linked_to, group}
-use Rattle.copying.proofs.Linked.{length_group, linked_to_mem, mem_linked_to}
+use Rattle.copying.specs.FairCopy.{linked_to}
+use Rattle.copying.proofs.Linked.{linked_to_mem, mem_linked_to}
 use Rattle.trimming.specs.TrimmedCopy.{trimmed}
 use Rattle.trimming.specs.Trimming.{Held, HoldsImplied, kept_at, kept_to, to_unpaused, TellsDigits}
 use Rattle.trimming.proofs.Kept.{trimmed_is}
@@ -79,18 +79,13 @@ new_test x (suc (suc y)) h k = absurd (omega arith)
 new_test (suc (suc x)) y h k = absurd (omega arith)
 
 -- the test of what is kept tells the digits of word `i`
-pub word_tells : (w : List ℕ) (a row : ℕ) (v : List ℕ) (i x : ℕ) → row ≡ links_at + 8 * a
-    → ((j : ℕ) → digit x j ≡ digit (get_or w (row + i) 0) j - digit (get_or v i 0) j) → TellsDigits (kept_at w a v) x (32 * i)
-word_tells w a row v i x p new j h =
-    let e : 0 + i ≡ i = omega arith in
+pub word_tells : {w v kept : List ℕ} {row : ℕ} (a i : ℕ) → RowLess w row v kept → row ≡ links_at + 8 * a → i < 8
+    → TellsDigits (kept_at w a v) (get_or kept i 0) (32 * i)
+word_tells {w} {v} {kept} a i s p hi j h =
     let c = 32 * i + j in
-    rw (new_word w v (links_at + 8 * a) 0 i x (rw e (rw p at new)) j h)
+    let e : 0 + i ≡ i = omega arith in
+    rw (new_word w v (links_at + 8 * a) 0 i (get_or kept i 0) (rw e (λ d. rw p at (s.less i d hi))) j h)
     (new_test (bit w (links_at + 8 * a) c) (bit v 0 c) (bit_lt w (links_at + 8 * a) c) (bit_lt v 0 c))
-
--- a group has a word for each of its links
-pub group_holds : (a : ℕ) (pause : ℕ → ℕ) (bs : List ℕ) (k : ℕ) → length (group a pause bs) < k → length bs < k
-group_holds a pause [] k h = omega arith
-group_holds a pause (b ∷ bs) k h = omega (arith, length_group a pause (b ∷ bs))
 
 -- ---- they are the links that stay
 

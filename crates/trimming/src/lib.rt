@@ -8,7 +8,7 @@ ghost use Rattle.bits.specs.Work.{links_at, ways_at, next_at};
 ghost use Rattle.writing.specs.Layout.{BeginsWith};
 ghost use Rattle.writing.proofs.Listing.{Listing};
 ghost use Rattle.copying.specs.FairCopy.{linked_to, group};
-ghost use Rattle.copying.specs.Copying.{GroupWritten};
+ghost use Rattle.copying.specs.Copying.{LinksWritten};
 ghost use Rattle.trimming.specs.TrimmedCopy.{trimmed, no_pause, trimmed_words};
 ghost use Rattle.trimming.specs.Trimming.{Held, WaysAdded, HoldsImplied, kept_to, to_unpaused, TellsDigits};
 
@@ -53,17 +53,14 @@ fn write_word(kept: u32, first: usize, links: usize, out: &mut [u32]) -> usize
     count
 }
 
-// Writes the group of `a`, whose links are the row that starts at word `row`, with those that are not implied, and gives their count.
-fn write_row(w: &[u32], a: usize, row: usize, implied: &[u32; 8], out: &mut [u32]) -> usize
-    requires { (next_at ≤ length w.now) × (a < 256) × (row ≡ links_at + 8 * a) × (length (group a (no_pause a) (kept_to w.now a implied.now)) < length out.old) }
-    ensures { GroupWritten a (no_pause a) (kept_to w.now a implied.now) out.old out.new result }
+// Writes a to word for each link in the row that starts at word `row` that is not implied, and gives their count.
+fn write_row(w: &[u32], row: usize, implied: &[u32; 8], out: &mut [u32]) -> usize
+    requires { (row + 8 ≤ length w.now) × ((a : ℕ) × (row ≡ links_at + 8 * a) × (length (kept_to w.now a implied.now) < length out.old)) }
+    ensures { (a : ℕ) → row ≡ links_at + 8 * a → LinksWritten (no_pause a) (kept_to w.now a implied.now) out.old out.new result }
 {
     let mut links = 0;
-    for (i, old) in implied.iter().enumerate() {
-        links = write_word(bits::without(w[row + i], *old), 32 * i, links, out);
-    }
-    if links != 0 {
-        out[0] = Kind::From.word(a);
+    for (i, kept) in bits::row_without(w, row, implied).iter().enumerate() {
+        links = write_word(*kept, 32 * i, links, out);
     }
     links
 }
@@ -72,12 +69,12 @@ fn write_row(w: &[u32], a: usize, row: usize, implied: &[u32; 8], out: &mut [u32
 fn trim_row(w: &[u32], n: usize, a: usize, out: &mut [u32]) -> usize
     requires { ((g : Graph) × Held g n w.now × (length (group a (no_pause a) (linked_to a (trimmed g).links n)) < length out.old)) × (a < n) }
     ensures { (g : Graph) → Held g n w.now
-        → GroupWritten a (no_pause a) (linked_to a (trimmed g).links n) out.old out.new result }
+        → LinksWritten (no_pause a) (linked_to a (trimmed g).links n) out.old out.new result }
 {
     let row = LINKS + 8 * a;
     let mut implied = [0; 8];
     note_implied(w, row, &mut implied);
-    write_row(w, a, row, &implied, out)
+    write_row(w, row, &implied, out)
 }
 
 // Writes the trimmed copy of a graph with `n` episodes, from its links and ways, and gives its count of words.

@@ -1,4 +1,5 @@
-// Writes the words of a report or of a loop, from the chains in the work words.
+// Writes the words of a report or of a loop, from the chains in the work words, to a lent output, since nothing is allocated; what is written is
+// counted. A chain is followed by `while let`, since the checker holds `successors` to be endless.
 #![tactic(auto)]
 
 ghost use Rattle.std.specs.Prelude.{◌≡◌, List, ◌∷◌, ℕ, ◌+◌, ◌*◌, ◌-◌, ◌<◌, ◌≤◌, length};

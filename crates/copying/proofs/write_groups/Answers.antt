@@ -1,7 +1,7 @@
 use mathlib.Core.Path.{refl}
 use native.Mathlib.Omega.{arith}
 use Rattle.copying.proofs.GroupLinks.{length_group_links}
-use Rattle.copying.proofs.Copies.{copying_none, copying_at, copying_length, copying_on, few_links, group_length_few}
+use Rattle.copying.proofs.Copies.{copying_none, copying_at, copying_length, copying_room, copying_on, few_links, links_room, group_length_few}
 use Rattle.copying.proofs.Calls.{next_may, next_written, next_called}
 use Rattle.copying.proofs.write_groups.Goals as goal
 
@@ -13,6 +13,14 @@ write_row-more-requires g c =
     let (pause, h, writes, same, few, small, fits) = c.requires in
     let here = c.loop-a.invariant pause h writes same fits in
     next_may writes fits here.0 here.1 (omega arith) _ refl
+
+pub put_from-requires : goal.put_from-requires
+put_from-requires g c =
+    let (pause, h, writes, same, few, small, fits) = c.requires in
+    let here = c.loop-a.invariant pause h writes same fits in
+    let room = copying_room here.1 fits _ refl (omega arith) in
+    let written = next_written writes fits here.0 here.1 (omega arith) refl c.write_row-more.ensures in
+    (omega arith, omega (arith, links_room written))
 
 pub group_words-words-requires : goal.group_words-words-requires
 group_words-words-requires g c =
@@ -39,6 +47,7 @@ loop-a-preserved g c =
     λ pause h writes same fits.
     let here = c.loop-a.invariant pause h writes same fits in (
       next_called writes fits here.0 here.1 (omega arith) refl c.write_row-more.ensures,
-      copying_on here.1 fits _ refl (omega arith) (next_written writes fits here.0 here.1 (omega arith) refl c.write_row-more.ensures) refl
+      copying_on here.1 fits _ refl (omega arith)
+          (c.put_from.ensures (pause c.loop-a.a) _ _ (next_written writes fits here.0 here.1 (omega arith) refl c.write_row-more.ensures)) refl
           c.group_words-words.ensures,
     )

@@ -11,11 +11,13 @@ use Rattle.report.proofs.report_within.Goals as goal
 pub solve-requires : goal.solve-requires
 solve-requires c =
     let yes = sym c.in-Ok.ensures.answer in
-    (passed_few _ _ _ _ _ _ yes c.requires, (passed _ _ _ _ _ _ yes).1)
+    (passed_few _ _ _ _ _ _ yes c.requires, λ o v same ready. ((graph_of c.in-Ok.log.words.now, ready), rw same (passed _ _ _ _ _ _ yes).1))
 
 pub returns-in-Ok : goal.returns-in-Ok
 returns-in-Ok c =
     let a = c.args in
+    let (o, v, o', v', same, ready, answered, left) = c.solve.ensures.answered in
     left_answered a.most a.log.now a.out.now a.work.now _ _ (sym c.in-Ok.ensures.answer) c.solve.new.out c.solve.result
-    (subst (λ (v : List ℕ). Answered (graph_of v) a.out.now c.solve.new.out c.solve.result) c.in-Ok.ensures.same c.solve.ensures.0)
-    (work_cleared a.work.now c.solve.new.w c.solve.ensures.1)
+    (subst (λ (u : List ℕ). Answered (graph_of u) a.out.now c.solve.new.out c.solve.result) c.in-Ok.ensures.same
+    (rw (← same, left) (answered (graph_of c.in-Ok.log.words.now) ready)))
+    (work_cleared a.work.now c.solve.new.w c.solve.ensures.cleared)

@@ -2,11 +2,8 @@
 use mathlib.Core.Path.{◌≡◌}
 use native.Mathlib.Omega.{arith}
 use lib.ListN.{length}
-use Rattle.logs.specs.Log.{graph_of}
 use Rattle.report.specs.Report.{work_words}
 use Rattle.report.proofs.solve.Goals as goal
 
-pub returns : goal.returns
-returns c =
-    let long : length c.answer-outcome.new.w ≡ work_words = omega arith in
-    (c.answer-outcome.ensures (graph_of c.args.log.words.now) c.prepare.ensures, rw long at c.clear.ensures)
+pub returns-clause-cleared : goal.returns-clause-cleared
+returns-clause-cleared g c = let long : length c.answer-result.new.arg4 ≡ work_words = omega arith in rw long at c.clear.ensures

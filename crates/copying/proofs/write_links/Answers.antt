@@ -4,9 +4,9 @@ use lib.ListN.{length}
 use Rattle.logs.specs.Words.{to_word}
 use Rattle.writing.proofs.Listing.{listing_none, listing_more, listing_same}
 use Rattle.copying.specs.Copying.{marked_at, pause_at}
-use Rattle.copying.proofs.Groups.{is_marked, not_marked, marked_room, group_links_lem, group_no_links}
-use Rattle.copying.proofs.write_group.Goals as goal
-use Rattle.copying.proofs.write_group.Goals.{in-Some, in_default}
+use Rattle.copying.proofs.Groups.{is_marked, not_marked, marked_room, links_listed}
+use Rattle.copying.proofs.write_links.Goals as goal
+use Rattle.copying.proofs.write_links.Goals.{in-Some, in_default}
 
 pub loop-b-init : goal.loop-b-init
 loop-b-init c =
@@ -16,7 +16,7 @@ loop-b-init c =
 pub bounds-out-links : goal.bounds-out-links
 bounds-out-links c =
     let a = c.args in
-    let more = marked_room a.row.now a.a c.loop-b.b (omega arith) (λ e. omega arith) in
+    let more = marked_room a.row.now c.loop-b.b (omega arith) (λ e. omega arith) in
     omega arith
 
 pub loop-b-preserved : goal.loop-b-preserved
@@ -27,7 +27,7 @@ loop-b-preserved c =
     elim c.match-checked_sub.branch [
       | in-Some p ↦
           let marked = is_marked row at.b (λ e. omega (arith, p.in-Some.ensures)) in
-          let more = marked_room row a.a at.b (omega arith) (λ e. omega (arith, p.in-Some.ensures)) in
+          let more = marked_room row at.b (omega arith) (λ e. omega (arith, p.in-Some.ensures)) in
           let written : p.word.result ≡ to_word at.b (pause_at row at.b) = p.word.ensures ∙ ap (to_word at.b) p.in-Some.ensures.1 in
           rw (p.links-is, p.out-is, written)
           (listing_more (marked_at row) (λ b. to_word b (pause_at row b)) a.out.now at.out (length row) at.links at.b at.invariant (omega arith)
@@ -38,17 +38,8 @@ loop-b-preserved c =
           (not_marked row at.b (omega (arith, p.in_default.ensures))))
     ]
 
-pub returns-then-links-ne0 : goal.returns-then-links-ne0
-returns-then-links-ne0 c =
-    let a = c.args in
+pub returns : goal.returns
+returns c =
+    let row = c.args.row.now in
     let at = c.loop-b in
-    let row = a.row.now in
-    rw c.word-then-links-ne0.ensures
-    (group_links_lem (marked_at row) (pause_at row) a.out.now at.out (length row) at.links at.b at.invariant (omega arith) a.a (λ e. omega arith))
-
-pub returns-else-links-ne0 : goal.returns-else-links-ne0
-returns-else-links-ne0 c =
-    let a = c.args in
-    let at = c.loop-b in
-    let row = a.row.now in
-    group_no_links (marked_at row) (pause_at row) a.out.now at.out (length row) at.links at.b at.invariant (omega arith) a.a (omega arith) (omega arith)
+    links_listed (marked_at row) (pause_at row) c.args.out.now at.out (length row) at.links at.b at.invariant (omega arith)
