@@ -14,10 +14,10 @@ ENTRIES = {
     "copying::": {
         "take_group": "the contract of `mark_block`, which asks each group for its block, and that of `mark_group`; `group_passed` is of the groups of other blocks",
         "copy_row": "the clauses of the closure in `write_copy`, which have both of its clauses",
+        "write_group": "the contract of `write_links`, of its to words, and that of `put_from`, which makes `GroupWritten` of these",
     },
     "trimming::": {
         "write_rows": "the contract of `copying::write_groups`, of any calls; `write_trimmed` makes these",
-        "write_word": "the contract of `write_row`",
     },
     "writing::": {
         "chain_start": "`Chains::start_of`: `StartOf`, as before",
@@ -30,6 +30,7 @@ ENTRIES = {
         "CopyOutcome": "`Result<usize, Refusal>`, of which `copy_answer` gives the answer",
     },
     "trimmed_copy::": {
+        "solve": "the contract of `report::solve`, of any answer, at that of `trimmed_copy::answer`",
         "TrimOutcome": "`Result<usize, Refusal>`, of which `trim_answer` gives the answer; a loop is the refusal with the reason `Loop` at its length",
     },
     "searching::": {},
@@ -40,7 +41,6 @@ ENTRIES = {
         "call": "`Call::make`; what it asked of the lengths is the invariant `within` of `Call`",
         "differ": "`Strays::among`, which counts them",
         "expect_cleared": "`write_cleared`, which takes an array of 16,400 words",
-        "digit_of": "a digit's value is below 16 where there is one; `None` where there is none",
         "HEAD FROM TO END": "`Kind::word`",
     },
     # ---- definitions
@@ -86,7 +86,12 @@ ENTRIES = {
     },
     # ---- copying
     "copying/proofs/Copies.antt": {"links_few": "`links_small` and `length_group_links`", "copying_all": "the contract of `copying::write_groups`; the fields of `Copying` at the last episode, which the check finds"},
-    "copying/proofs/Rows.antt": {"lowered_less lowered_same mark_stored mark_kept": "the contract of `copying::lower`, which the check finds", "group_first": "the contract of `copying::mark_group`; that `GroupTaken` holds of no words the check finds", "cleared_block": "the type `[u32; BLOCK]`, and `marks_none`", "passed_few": "`few_episodes`, and the clause `log.episodes ≤ 256` of `copying::write_copy`; `graph_episodes` says that these are the graph's"},
+    "copying/proofs/Rows.antt": {"row_words": "`row_written`, of the to words of a group, and `row_marks`, of their count", "lowered_less lowered_same mark_stored mark_kept": "the contract of `copying::lower`, which the check finds", "group_first": "the contract of `copying::mark_group`; that `GroupTaken` holds of no words the check finds", "cleared_block": "the type `[u32; BLOCK]`, and `marks_none`", "passed_few": "`few_episodes`, and the clause `log.episodes ≤ 256` of `copying::write_copy`; `graph_episodes` says that these are the graph's"},
+    "copying/proofs/Groups.antt": {
+        "group_first group_links_lem": "`from_put`, of all links that were written",
+        "group_none group_no_links": "`from_left`, of all links that were written",
+        "all size words": "`links_listed`, of which they were steps",
+    },
     # ---- input
     "input/proofs/Asked.antt": {"too_many no_fours too_short enough": "the contract of `input::words_of`, `WordsTaken`; each answer the check finds, since `bytes_asked` is an `abbrev`"},
     "input/proofs/Words.antt": {"none_written": "the contract of `input::fill`; that `Written` holds at first the check finds"},
@@ -116,7 +121,7 @@ ENTRIES = {
     "parsing/proofs/Wholes.antt": {"is_whole": "`count_test`, of which it was the case `true`"},
     # ---- trimming
     "trimming/proofs/Joining.antt": {"link_digit old_digit": "`new_digit`, of both"},
-    "trimming/proofs/Rows.antt": {"fresh_test": "`new_test`"},
+    "trimming/proofs/Rows.antt": {"fresh_test": "`new_test`", "group_holds": "`links_fewer`, in `copying/proofs/Linked.antt`"},
     # ---- reach
     "reach/proofs/Reached.antt": {"matrix_copied": "`matrix_same`, between any two places", "copying_end": "the contract of `reach::copy_links`: std's `copy_from_slice`"},
     # ---- report
@@ -129,7 +134,10 @@ ENTRIES = {
     },
     # ---- rising
     "rising/proofs/Rising.antt": {
-        "taken": "the word that `taking_on` takes, of which it asks `Ends`",
+        "taken": "a word of `bits::row_without`, whose contract is `RowLess`",
+        "Taking taking_start taking_on": "the contract of `bits::row_without`, which the check finds, and of the words around `put_before` and `put_behind`",
+        "taking_end": "`ends_taken`",
+        "rise_more": "`rise_test`, of all rows at once, and `row_test`, of one",
         "links_still": "`all_still`: nothing but the row of ways of `a` changes",
         "noted_none": "the contract of `rising::note_linked`; the case without a link the check finds",
     },
