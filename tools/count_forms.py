@@ -14,7 +14,7 @@ LINES = [
     ("1b comment: a value that stands for none",
      r"^// .*(, or (0|256|`n`|the length)( |\.|,)|`m` where there is( none|$)|is `m` where there$|16 where the byte|, or 17 where|, plus one\.|; gives 1, or 0|^// 1 where)"),
     ("1b a figure tested for none",
-     r"(if|while) (next|before|old|length|place|v|found|item|b|x|w\[\w+ \+ \w\]|[\w:]+\(.*\)) (!=|==|<|<=) (0|1|a|m|n|256) \{$|if (15|9) < \w+ \{$"),
+     r"(if|while) (next|before|old|length|place|v|found|item|b|x|w\[\w+ \+ \w\]|[\w:]+\(.*\)) (!=|==|<|<=) (0|1|a|m|n|256) \{$|if (15|9) < \w+ \{$|if mark == 0 \|\|"),
     ("1c a number for a kind of word", r"(kind_of\(.*[!=]= (kind|\d+)|\bkind [!=]= \d+|: u32 = 0x[1-9A-F]000_0000;|0x[23F]000_0000 \+|0x1000_0000 \+|, [57], |kind: u32)"),
     ("1d a number for a refusal", r"((Refused|GivenUp)\(\d+,|return 1[67];|refusal\(rt, 13,|: u32 = 13;|number [!=]= 0)"),
     ("3 while and loop", r"(^\s*while |\bloop \{$)"),

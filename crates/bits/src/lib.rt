@@ -11,7 +11,8 @@ pub use ones::{Ones, Row, bits_of, ones_of};
 use std::array;
 
 // The regions of the work words: the links and the ways, each a row of bits for each episode; the tables of the search, 256 words each;
-// the bits of what it has seen, of what earlier searches have seen in vain, and bits of which none is set.
+// the bits of what it has seen, of what earlier searches have seen in vain, and bits of which none is set: no code reads these, and they stay since
+// the layout of the work words stays.
 pub const LINKS: usize = 0;
 
 pub const WAYS: usize = 2048;
@@ -132,7 +133,7 @@ fn first_from<F: Fn(usize) -> u32>(word_of: F, from: usize) -> Option<usize>
     ensures first { (bits : ℕ → ℕ) → ((i x : ℕ) → i < 8 → F.post word_of i x → WordOf bits i x) → FirstFrom bits from (place_or_end result) }
     ensures below { IfSome result (λ b. b < 256) }
 {
-    // By hand, since a turn goes from any bit of a word to the first bit of the next word.
+    // By hand: a range over the words would be no plainer, since the first word is shifted and the others are not.
     let mut at = from;
     while at < 256 {
         let i = at / 32;

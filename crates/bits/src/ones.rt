@@ -1,4 +1,4 @@
-// The bits of a word and of a row, one by one, the lowest first.
+// The bits of a word and of a row, one by one, the lowest first. A bit is a usize, as places are, and `as` makes it one of a u32.
 ghost use Rattle.std.specs.Prelude.{◌≡◌, ◌+◌, ◌-◌, ◌≤◌, length};
 ghost use Rattle.std.specs.Iterator.{at_most};
 ghost use lib.Count.{count_trailing_zeros};

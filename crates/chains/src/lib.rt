@@ -1,6 +1,5 @@
 // Chains of items in the work words: first pairs as they come, then an augmenting search from the end of each chain, which joins it to another.
-// What a search has seen in vain is dead: no later search looks at it. A chain is followed by `while let`, since the checker holds `successors`
-// to be endless.
+// What a search has seen in vain is dead: no later search looks at it. The contracts say what a function wants of the words, as in `searching`.
 #![tactic(auto)]
 
 ghost use Rattle.std.specs.Prelude.{◌+◌, ◌<◌};
@@ -49,6 +48,7 @@ fn extend(w: &mut [u32], base: usize, m: usize, a: usize)
         bits::copy_row(w, DEAD, SEEN);
         return;
     };
+    // By `while let`: each step changes the words, so no iterator can hold them.
     let mut item = Some(found);
     while let Some(b) = item {
         item = searching::flip(w, b);

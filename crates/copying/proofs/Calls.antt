@@ -1,8 +1,8 @@
 -- Calls that write the links of a graph, episode by episode.
-use mathlib.Core.Path.{◌≡◌, refl, subst, ◌∙◌}
+use mathlib.Core.Path.{◌≡◌, refl, ap, subst, ◌∙◌}
 use mathlib.Core.Logic.{◌≢◌}
 use mathlib.Core.List.{List}
-use Prim.Native.Nat.{ℕ, zero, suc, ◌+◌, ◌-◌, ◌/◌, ◌%◌, ◌≤◌, ◌<◌}
+use Prim.Native.Nat.{ℕ, zero, suc, ◌+◌, ◌-◌, ◌/◌, ◌%◌, ◌≤◌, ◌<◌, ◌^◌}
 use native.Mathlib.Omega.{arith}
 use native.Mathlib.Numerals.{add-one}
 use lib.ListN.{length, take, drop}
@@ -16,7 +16,7 @@ use Rattle.copying.specs.FairCopy.{linked_to, group, copy_words}
 use Rattle.copying.specs.Copying.{BlockMarks, LinksWritten}
 use Rattle.copying.specs.Calls.{RoomFor, CalledBelow, WritesGroups}
 use Rattle.copying.proofs.Rows.{next_block}
-use Rattle.copying.proofs.Copies.{Copying, copying_room}
+use Rattle.copying.proofs.Copies.{Copying, copying_room, few_links, links_room}
 
 -- calls write the groups if what they need before the group of an episode, they leave for the next
 module _ {F : Type 0} (pre : F → ℕ → MutBor (List ℕ) → Type 0) (step : F → ℕ → MutBor (List ℕ) → ℕ → MutBor (List ℕ) → F → Type 0)
@@ -50,6 +50,13 @@ module _ {F : Type 0} {pre : F → ℕ → MutBor (List ℕ) → Type 0} {step :
 
       pub next_called : CalledBelow pre step pause g f (a + 1) e'
       next_called = rw add-one (e, p, p', r, before, rw at (copying_room s fits _ refl h), call)
+
+      -- few links are written, and the part is as long as it was
+      pub next_few : g.n < 2 ^ 28 → r < 2 ^ 28
+      next_few few = few_links g.links g.n a few next_written
+
+      pub next_room : 0 < length p'.now
+      next_room = let room = copying_room s fits _ refl h in omega (arith, links_room next_written, ap length at)
 
 -- what the calls for a fair copy hold: the log, and the marks of a block
 abbrev pub Held : Type 0

@@ -1,5 +1,6 @@
 // The fair copy of a log, block by block: the links from 64 episodes are marked in one pass over the log, in a row of 256 words for each
-// episode; then the marked ones are written, row by row.
+// episode; then the marked ones are written, row by row, to a lent output, since nothing is allocated; what is written is counted. A `Log` passes at
+// any ceilings, so the contracts that want few episodes say so.
 #![tactic(auto)]
 
 ghost use Rattle.std.specs.Prelude.{◌≡◌, ◌≢◌, List, ℕ, ◌/◌, ◌%◌, ◌^◌, ◌<◌, ◌≤◌, length, get_or, replicate, set};
@@ -8,14 +9,14 @@ ghost use Rattle.logs.specs.Content.{least_pause};
 ghost use Rattle.logs.specs.Log.{content_of, graph_of};
 ghost use Rattle.logs.specs.Groups.{EpisodesBelow};
 ghost use Rattle.writing.specs.Layout.{BeginsWith};
-ghost use Rattle.copying.specs.FairCopy.{linked_to, group, group_links, copy_words, fair_words};
+ghost use Rattle.copying.specs.FairCopy.{linked_to, group, copy_words, fair_words};
 ghost use Rattle.copying.specs.Calls.{WritesGroups};
 ghost use Rattle.paths.specs.Graph.{Graph};
-ghost use Rattle.copying.specs.Copying.{block_words, BlockMarks, Lowered, GroupTaken, marked, pause_at, group_length, LinksWritten, GroupWritten, GroupsWritten};
+ghost use Rattle.copying.specs.Copying.{BlockMarks, Lowered, GroupTaken, marked, pause_at, group_length, LinksWritten, GroupWritten, GroupsWritten};
 
 use logs::{Group, Kind, Log, ToWord};
 
-// The words of a block.
+// The words of a block: as many as the work words of a call (`report::WORK_WORDS`), which are lent for it.
 pub const BLOCK: usize = 16384;
 
 // Lowers the mark at `at` to the pause plus one, where there is none yet or a higher one. The mark is compared and not taken apart, so `checked_sub(1)`,

@@ -1,4 +1,4 @@
-// The fair copy of a log.
+// The fair copy of a log. Log, output and work words are buffers of the caller.
 #![tactic(auto)]
 
 ghost use Rattle.std.specs.Prelude.{◌≡◌, ◌≤◌, IfOk, length, replicate};

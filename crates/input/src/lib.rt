@@ -1,7 +1,7 @@
-// The bytes of a log as words: questions 14 and 15, and 11 of the lent words. The bytes of a reader.
+// The bytes of a log as words, which stand in lent ones: questions 14 and 15, and 11 of the lent words. The bytes of a reader.
 #![tactic(auto)]
 
-ghost use Rattle.std.specs.Prelude.{◌≡◌, ◌++◌, ◌+◌, ◌*◌, ◌<◌, ◌≤◌, IfOk, length, take, drop};
+ghost use Rattle.std.specs.Prelude.{◌≡◌, ◌+◌, ◌*◌, ◌<◌, ◌≤◌, IfOk, length, take};
 ghost use Rattle.std.specs.Io.{ReadsAtMost};
 ghost use Rattle.std.specs.Io.KnownBytes.{Consumes, IsAtEnd};
 ghost use Rattle.input.specs.Input.{words_of, word_at, WordsTaken};
@@ -26,7 +26,7 @@ fn fill(bytes: &[u8], words: &mut [u32])
     requires { length bytes.now ≡ 4 * length words.old }
     ensures { words.new ≡ words_of bytes.now }
 {
-    // The place of the bytes is counted out: `zip` beside `iter_mut` leaves the checker without the fact that both are at one place.
+    // The place of the bytes is computed: `zip` beside `iter_mut` leaves the checker without the fact that both are at one place.
     for (i, word) in words.iter_mut().enumerate() {
         *word = word_at(bytes, 4 * i);
     }

@@ -1,4 +1,4 @@
-// The link count of a log: how many different links it has.
+// The link count of a log: how many different links it has. The limit of 256 episodes is that of the matrix; a log passes at any ceilings.
 #![tactic(auto)]
 
 ghost use Rattle.std.specs.Prelude.{◌≡◌, ℕ, ◌+◌, ◌*◌, ◌/◌, ◌<◌, ◌≤◌, eqb, length};
@@ -8,8 +8,11 @@ ghost use Rattle.link_count.specs.Counted.{Counted, count_answer, count_asked};
 
 use logs::{Ceilings, Hear, Refusal};
 
+// The words of a matrix of bits, a row of 8 words for each of 256 episodes.
+const MATRIX: usize = 2048;
+
 // Marks the link to episode `to` in the row of its from word, which starts at word `row`; says whether it was marked before.
-fn mark(seen: &mut [u32], row: usize, to: usize) -> bool
+fn mark(seen: &mut [u32; MATRIX], row: usize, to: usize) -> bool
     requires { row + to / 32 < length seen.old }
     ensures { BitSet seen.old seen.new row to × (result ≡ eqb (bit seen.old row to) 1) }
 {
@@ -21,7 +24,7 @@ fn mark(seen: &mut [u32], row: usize, to: usize) -> bool
 // Counts the different links that it hears. Each is marked in `seen`, a row of bits for each episode, and counted where it was not marked before.
 #[derive(Drop)]
 struct Counter<'a> {
-    seen: &'a mut [u32],
+    seen: &'a mut [u32; MATRIX],
     links: usize,
 }
 
@@ -50,7 +53,7 @@ fn link_count_within(most: Ceilings, log: &[u32]) -> Result<usize, Refusal>
     requires { most.episodes ≤ 256 }
     ensures { count_answer result ≡ count_asked most log.now }
 {
-    let mut seen = [0; 2048];
+    let mut seen = [0; MATRIX];
     let mut counter = Counter {
         seen: &mut seen,
         links: 0,

@@ -85,6 +85,7 @@ impl TryFrom<u32> for Kind {
     }
 }
 
+// The number of a word's kind, also of a kind that no word has.
 pub fn kind_of(w: u32) -> u32
     ensures { result ≡ kind w }
 {
@@ -228,7 +229,6 @@ pub fn group_end(log: &[u32], start: usize) -> usize
     ensures { ToWords log.now start result × (to_before_last log.now result ≡ false) }
 {
     let last = log.len() - 1;
-    // `position` and `map_or` would want the laws of both, and a proof by cases, where this wants an invariant of one line.
     for (k, w) in log[start..last].iter().enumerate() {
         if !Kind::To.is_of(*w) {
             return start + k;
@@ -321,16 +321,13 @@ impl<'a> Questions<'a> {
 
     // Questions 4 to 8, of the word at `at`, which is neither the head nor the last. Whether a from word came before it is asked of the caller: what
     // is promised holds of either, at each place.
-    #[tactic(auto, using(crate::proofs::Asked::from_asked, crate::proofs::Asked::group_to, crate::proofs::Asked::group_other, crate::proofs::Asked::group_kindless))]
+    #[tactic(auto, using(crate::proofs::Asked::from_asked, crate::proofs::Asked::group_to, crate::proofs::Asked::group_other))]
     pub fn group_word(self, at: usize, from: bool, count: usize) -> Result<LogWord, Refusal>
         requires { at + 1 < length self.log.now }
         ensures { word_answer result ≡ group_word self.entry.most self.entry.n at (get_or self.entry.log.now at 0) (drop (at + 1) self.entry.log.now) from count }
     {
         let w = self.log[at];
-        let Ok(kind) = Kind::try_from(w) else {
-            return Err(Reason::UnknownKind.at(at));
-        };
-        match kind {
+        match Kind::try_from(w).map_err(|reason| reason.at(at))? {
             Kind::From => Ok(LogWord::From(self.from_word(at, number_of(w))?)),
             Kind::To if from => Ok(LogWord::To(self.to_word(at, w, count)?)),
             Kind::To => Err(Reason::ToBeforeFrom.at(at)),

@@ -45,8 +45,8 @@ fn threads_end(report: &[u32], at: usize, k: usize) -> Option<usize>
     Some(place)
 }
 
-// The number of the first word, which is the width in a whole report, or 0 where there is no word. No `Option`: `is_whole` says that there is one, and
-// each caller would unwrap it behind that.
+// The number of the first word, which is the width in a whole report, or 0 where there is no word. No `Option`, since a call
+// that could not fail still cannot; it is asked of whole reports, which have a word.
 pub fn width(report: &[u32]) -> usize
     ensures { result ≡ number (get_or report.now 0 0) }
 {

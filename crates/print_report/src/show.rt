@@ -20,7 +20,7 @@ pub fn report(rt: &impl Print, episodes: usize, links: usize, report: &[u32]) ->
     Ok(())
 }
 
-// Refusal 13 at the length of a loop, and its episodes, which the steps are.
+// A loop, of which these are the steps: refusal 13 at its length, and its episodes.
 pub fn cycle(rt: &impl Print, steps: &[u32]) -> io::Result<()> {
     println!(rt; "{}", Reason::Loop.at(steps.len()))?;
     line(rt, "loop", Kind::Step, steps)

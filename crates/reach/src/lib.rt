@@ -2,9 +2,9 @@
 // takes longer words too, so its contract says that these are within them.
 #![tactic(auto)]
 
-ghost use Rattle.std.specs.Prelude.{◌≡◌, true, false, ◌+◌, ◌*◌, ◌<◌, ◌≤◌, IfSome, length};
+ghost use Rattle.std.specs.Prelude.{◌+◌, ◌*◌, ◌<◌, ◌≤◌, IfSome, length};
 ghost use Rattle.logs.specs.Groups.{EpisodesBelow};
-ghost use Rattle.bits.specs.Work.{links_at, next_at};
+ghost use Rattle.bits.specs.Work.{next_at};
 ghost use Rattle.rising.specs.Rising.{NoWays};
 ghost use Rattle.reach.specs.Reach.{NoneMarked, GroupMarked, LinksMarked, LinksCopied, HoldsWays, RowClosed, RoundClosed, Closed, WaysReached};
 ghost use Rattle.reach.specs.Reach.{ReachedLog, FirstLoop, episode_or};
@@ -42,7 +42,7 @@ fn copy_links(w: &mut [u32; NEXT])
     ways.copy_from_slice(links);
 }
 
-// Where `a` has a way to `k`, gives it the ways of `k`, which are `ways`. Another joining than that of `rising`: a row by itself, into the matrix.
+// Where `a` has a way to `k`, gives it the ways of `k`, which are `ways`.
 fn close_row(w: &mut [u32; NEXT], a: usize, k: usize, ways: &[u32; 8])
     requires { (a < 256) × (k < 256) × HoldsWays w.old k ways.now }
     ensures { RowClosed w.old w.new a k }

@@ -1,4 +1,5 @@
-// The report on a log.
+// The report on a log. Log, output and work words are buffers of the caller. A `Log` passes at any ceilings, so the contracts that want few episodes
+// say so.
 #![tactic(auto)]
 
 ghost use Rattle.std.specs.Prelude.{◌≡◌, List, ℕ, ◌+◌, ◌<◌, ◌≤◌, IfOk, length, replicate};
@@ -113,7 +114,8 @@ pub fn prepare(log: Log, w: &mut [u32; WORK_WORDS])
     reach::reachability(log, w);
 }
 
-// What `answer` gives for n and the output, from the links and the ways of a log in work words of which none is left as it was.
+// The answer to a log: the links and the ways are put into the work words, `answer` is called with n, the output and these, and at last all work words
+// are made zero.
 pub fn solve<R, F: FnOnce(usize, &mut [u32], &mut [u32]) -> R>(
     log: Log,
     out: &mut [u32],
@@ -143,7 +145,7 @@ pub fn show_loop(n: usize, out: &mut [u32], w: &mut [u32]) -> Option<usize>
     Some(writing::write_loop(w, v, out))
 }
 
-// The report or the loop, from the links and the ways in the work words.
+// The report or the loop, from the links and the ways in the work words. A trimmed copy is answered otherwise behind the loop that is shown first.
 fn answer(n: usize, out: &mut [u32], w: &mut [u32]) -> Outcome
     requires { ((g : Graph) × Ready g n w.old) × (report_need n ≤ length out.old) }
     ensures { (g : Graph) → Ready g n w.old → Answered g out.old out.new result }

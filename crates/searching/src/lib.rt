@@ -1,6 +1,6 @@
 // Chains of items in the work words, and an augmenting search from the end of one of them. The tables stand in lent words, since nothing is
-// allocated. `w, base, m, a` go together: a struct of them was tried and was longer, since `search` takes them one by one. `as` stands between
-// u32 and usize, since neither has a `From` for the other.
+// allocated; these may be longer than the regions, so the contracts say that the regions are within them. `w, base, m, a` go together: a struct of
+// them was tried and was longer, since `search` takes them one by one. `as` stands between u32 and usize, since neither has a `From` for the other.
 #![tactic(auto)]
 
 ghost use Rattle.std.specs.Prelude.{◌≡◌, ◌<◌, ◌≤◌, length, get_or, unwrap_or, IfSome};
@@ -113,8 +113,7 @@ pub fn flip(w: &mut [u32], b: usize) -> Option<usize>
     requires { FlipAsked w.old b }
     ensures { FlippedIn w.old w.new b (figure result) }
 {
-    // The word is not 0, and `item_at` would ask that once more.
-    let place = w[VIA + b] as usize - 1;
+    let place = item_at(w, VIA + b).unwrap();
     let a = w[QUEUE + place] as usize;
     let old = next_of(w, a);
     put_behind(w, a, b);

@@ -34,7 +34,7 @@ pub fn find_thread(report: &[u32], i: usize) -> Result<Stretch, Refusal>
     Ok(Stretch { start, end })
 }
 
-// The number with which `find_thread` refuses thread `i`, or 0 where it finds it: a number alone, for callers that want no place.
+// The number with which `find_thread` refuses thread `i`, or 0 where it finds it: it is as `find_thread` says, and stays since its promise stays.
 pub fn thread_number(report: &[u32], i: usize) -> u32
     ensures { ThreadNumber report.now i result }
 {

@@ -15,7 +15,8 @@ fn digit_of(b: u8) -> Option<usize>
     }
 }
 
-// The number that the digits are in a base. There is none where there are no digits, another byte is among them, or a usize cannot hold it.
+// The number that the digits are in a base. There is none where there are no digits, another byte is among them, or a usize cannot hold it. By hand,
+// since `from_str_radix` takes small letters and a sign too.
 fn number(base: usize, digits: &[u8]) -> Option<usize> {
     if digits.is_empty() {
         return None;
@@ -81,7 +82,7 @@ fn call(service: Service, text: &[u8]) -> Option<(Asked, &[u8])> {
 // What is asked before the colon of a line, and the name behind it.
 fn asked_by(head: &[u8]) -> Option<(Asked, &[u8])> {
     let (word, rest) = split_once(head, b' ')?;
-    // A table of functions would have to make them alike first.
+    // By `match`, since the calls take different arguments.
     match word {
         b"read" => Some((Asked::Reading, rest)),
         b"links" => Some((Asked::Links, rest)),

@@ -1,4 +1,4 @@
-// The trimmed copy of a log.
+// The trimmed copy of a log. Log, output and work words are buffers of the caller.
 #![tactic(auto)]
 
 ghost use Rattle.std.specs.Prelude.{◌<◌, length};
@@ -10,7 +10,7 @@ ghost use Rattle.trimmed_copy.specs.Answering.{Room, TrimAnswered};
 
 use logs::{Ceilings, Reason, Refusal};
 
-// The trimmed copy or the loop, from the links and the ways in the work words.
+// The trimmed copy or the loop, from the links and the ways in the work words. As in `report`, a loop is shown first.
 fn answer(n: usize, out: &mut [u32], w: &mut [u32]) -> Result<usize, Refusal>
     requires { (g : Graph) × Ready g n w.old × Room g (length out.old) }
     ensures { (g : Graph) → Ready g n w.old → Room g (length out.old)

@@ -1,4 +1,5 @@
-// The trimmed copy of a log, row by row: what the ways of an episode's links hold together is implied, and its links less that are written.
+// The trimmed copy of a log, row by row: what the ways of an episode's links hold together is implied, and its links less that are written, to a lent
+// output, since nothing is allocated; what is written is counted. The matrices stand among other words, so the contracts say that they are within them.
 #![tactic(auto)]
 
 ghost use Rattle.std.specs.Prelude.{◌≡◌, Bool, List, ℕ, ◌+◌, ◌*◌, ◌<◌, ◌≤◌, length, replicate};
@@ -32,9 +33,8 @@ fn note_implied(w: &[u32], row: usize, implied: &mut [u32; 8])
     requires { (next_at ≤ length w.now) × (row + 8 ≤ ways_at) × (implied.old ≡ replicate 8 0) }
     ensures { (a : ℕ) → row ≡ links_at + 8 * a → HoldsImplied w.now a implied.new }
 {
-    // By index, since each word is read after the ways of those before it have been joined.
-    for i in 0..8 {
-        join_ways(w, bits::without(w[row + i], implied[i]), 32 * i, implied);
+    for (i, links) in w[row..row + 8].iter().enumerate() {
+        join_ways(w, bits::without(*links, implied[i]), 32 * i, implied);
     }
 }
 
