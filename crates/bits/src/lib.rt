@@ -1,5 +1,5 @@
 // Rows of bits in lent words: 8 words, 256 bits, to a row. The words may be longer than what is used of them and the row begin anywhere, so the
-// contracts say that it is within them. `as` stands between u32 and usize, since neither has a `From` for the other.
+// contracts say that it is within them; the bound of a number stands where the number is a parameter by itself. `as` stands between u32 and usize, since neither has a `From` for the other.
 #![tactic(auto)]
 
 ghost use Rattle.std.specs.Prelude.{◌≡◌, ℕ, ◌+◌, ◌-◌, ◌*◌, ◌/◌, ◌<◌, ◌≤◌, IfSome, eqb, length, get_or, replicate};
@@ -11,8 +11,8 @@ pub use ones::{Ones, Row, bits_of, ones_of};
 use std::array;
 
 // The regions of the work words: the links and the ways, each a row of bits for each episode; the tables of the search, 256 words each;
-// the bits of what it has seen, of what earlier searches have seen in vain, and bits of which none is set: no code reads these, and they stay since
-// the layout of the work words stays.
+// the bits of what it has seen, of what earlier searches have seen in vain, and bits of which none is set: no code reads the last, which stay
+// since the layout of the work words stays.
 pub const LINKS: usize = 0;
 
 pub const WAYS: usize = 2048;

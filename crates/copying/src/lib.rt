@@ -19,8 +19,8 @@ use logs::{Group, Kind, Log, ToWord};
 // The words of a block: as many as the work words of a call (`report::WORK_WORDS`), which are lent for it.
 pub const BLOCK: usize = 16384;
 
-// Lowers the mark at `at` to the pause plus one, where there is none yet or a higher one. The mark is compared and not taken apart, so `checked_sub(1)`,
-// as in `write_links`, would be no plainer.
+// Lowers the mark at `at` to the pause plus one, where there is none yet or a higher one. A word has no room for a flag; the mark is compared here and
+// not taken apart, so `checked_sub(1)`, as in `write_links`, would be no plainer.
 fn lower(w: &mut [u32], at: usize, pause: u32)
     requires { (at < length w.old) × (pause < 2 ^ 12) }
     ensures { Lowered at pause w.old w.new }

@@ -38,7 +38,7 @@ pub fn copy_asked(
     report::call_asked(most, words, output, work, |_, t| 2 + 2 * t)
 }
 
-// The fair copy at a caller's ceilings.
+// The fair copy at a caller's ceilings. As in `report`, questions and then an answer.
 #[tactic(auto, using(crate::proofs::CopyCalls::copy_refused, crate::proofs::CopyCalls::copy_passed))]
 fn fair_copy_within(
     most: Ceilings,

@@ -50,11 +50,10 @@ impl Kind {
     pub fn is_of(self, w: u32) -> bool
         ensures { result ≡ eqb (kind w) (kind_code self) }
     {
-        // By its number, as only one kind is asked for.
-        kind_of(w) == self.code()
+        Kind::try_from(w) == Ok(self)
     }
 
-    // The word of this kind with a number.
+    // The word of this kind with a number. The kind's code stands in the top 4 bits, as it does in `ToWord::word`: no form is plainer.
     pub fn word(self, number: usize) -> u32
         requires { Small number }
         ensures { result ≡ word (kind_code self) number }
@@ -85,7 +84,7 @@ impl TryFrom<u32> for Kind {
     }
 }
 
-// The number of a word's kind, also of a kind that no word has.
+// The number of a word's kind, also where `Kind` has none of that number.
 pub fn kind_of(w: u32) -> u32
     ensures { result ≡ kind w }
 {
@@ -335,7 +334,7 @@ impl<'a> Questions<'a> {
         }
     }
 
-    // Questions 4 to 10, of the word at `at` behind the head. Behind the log stands no end.
+    // Questions 4 to 10, of the word at `at` behind the head. Behind the log stands no end. As in `group_word`, `from` is asked of the caller.
     #[tactic(auto, using(crate::proofs::Places::word_behind))]
     pub fn log_word(self, at: usize, from: bool, count: usize) -> Result<LogWord, Refusal>
         ensures { word_answer result ≡ log_word_at self.entry.most self.entry.log.now self.entry.n at from count }

@@ -1,5 +1,5 @@
 // Who has a way to whom: the links of a log as a matrix of bits, and its closure. The steps take the words of both matrices alone; what is public
-// takes longer words too, so its contract says that these are within them.
+// takes longer words too, so its contract says that these are within them. The bound of a number stands where the number is a parameter by itself.
 #![tactic(auto)]
 
 ghost use Rattle.std.specs.Prelude.{◌+◌, ◌*◌, ◌<◌, ◌≤◌, IfSome, length};

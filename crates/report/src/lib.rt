@@ -1,5 +1,5 @@
 // The report on a log. Log, output and work words are buffers of the caller. A `Log` passes at any ceilings, so the contracts that want few episodes
-// say so.
+// say so; that the log which has passed is that of the words which came in, each call says of its own result.
 #![tactic(auto)]
 
 ghost use Rattle.std.specs.Prelude.{◌≡◌, List, ℕ, ◌+◌, ◌<◌, ◌≤◌, IfOk, length, replicate};
@@ -145,7 +145,7 @@ pub fn show_loop(n: usize, out: &mut [u32], w: &mut [u32]) -> Option<usize>
     Some(writing::write_loop(w, v, out))
 }
 
-// The report or the loop, from the links and the ways in the work words. A trimmed copy is answered otherwise behind the loop that is shown first.
+// The report or the loop, from the links and the ways in the work words. As in `trimmed_copy`, a loop is shown first; the rest differs.
 fn answer(n: usize, out: &mut [u32], w: &mut [u32]) -> Outcome
     requires { ((g : Graph) × Ready g n w.old) × (report_need n ≤ length out.old) }
     ensures { (g : Graph) → Ready g n w.old → Answered g out.old out.new result }
@@ -157,7 +157,7 @@ fn answer(n: usize, out: &mut [u32], w: &mut [u32]) -> Outcome
     Outcome::Report(writing::write_report(w, n, out))
 }
 
-// The report at a caller's ceilings. As in both copies, questions and then an answer: one function of both would be as long as all three.
+// The report at a caller's ceilings. As in both copies, questions and then an answer: one function that takes both would be as long as all three.
 #[tactic(auto, using(crate::proofs::Calls::passed, crate::proofs::Calls::left_denied))]
 fn report_within(most: Ceilings, log: &[u32], out: &mut [u32], work: &mut [u32]) -> Outcome
     requires { most.episodes < 256 }

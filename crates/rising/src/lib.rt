@@ -1,5 +1,6 @@
-// The ways of links that rise: from the last episode to the first. The steps take the words of the links and the ways alone; what is public takes
-// longer words too, so its contract says that these are within them.
+// The ways of links that rise: from the last episode to the first. The steps take the words of the links and the ways alone; what is public, and
+// `row_rises`, takes longer words too, so the contract says that these are within them. The bound of a number stands where the number is a parameter
+// by itself.
 #![tactic(auto)]
 
 ghost use Rattle.std.specs.Prelude.{◌≡◌, ℕ, ◌+◌, ◌*◌, ◌<◌, ◌≤◌, length};

@@ -29,7 +29,7 @@ fn trials(rt: &impl Print, name: &str, log: &[u32]) -> io::Result<()> {
 }
 
 // The trials of a log of `n` words: the head, a from word of episode 0, the words that `word_at` gives for each place behind it, and the
-// end with `count`.
+// end with `count`. They stand in an array with room for the most, since nothing is allocated.
 fn filled<F: Fn(usize) -> u32>(
     rt: &impl Print,
     name: &str,

@@ -82,7 +82,7 @@ fn call(service: Service, text: &[u8]) -> Option<(Asked, &[u8])> {
 // What is asked before the colon of a line, and the name behind it.
 fn asked_by(head: &[u8]) -> Option<(Asked, &[u8])> {
     let (word, rest) = split_once(head, b' ')?;
-    // By `match`, since the calls take different arguments.
+    // By `match` on text, the plain form.
     match word {
         b"read" => Some((Asked::Reading, rest)),
         b"links" => Some((Asked::Links, rest)),

@@ -76,7 +76,7 @@ impl Trial<'_> {
         println!(rt)
     }
 
-    // Makes the call, and prints its answer.
+    // Makes the call, and prints its answer. By `match`, as in `ask`.
     fn answer(self, rt: &impl Print) -> io::Result<()> {
         let words = self.words;
         match self.asked {
@@ -258,7 +258,7 @@ impl Call {
 // The output words that are just enough for a copy: those of the longest log that passes.
 const COPY_WORDS: usize = input::MOST_BYTES / 4;
 
-// The output words that are just enough for every log.
+// The output words that are just enough for every log, by service.
 fn enough(service: Service) -> usize
     ensures { result ≤ REPORT_WORDS }
 {

@@ -22,7 +22,7 @@ fn answer(n: usize, out: &mut [u32], w: &mut [u32]) -> Result<usize, Refusal>
     Ok(trimming::write_trimmed(w, n, out))
 }
 
-// The trimmed copy at a caller's ceilings.
+// The trimmed copy at a caller's ceilings. As in `report`, questions and then an answer.
 #[tactic(auto, using(crate::proofs::TrimCalls::trim_refused, fair_copy::proofs::CopyCalls::copy_passed))]
 fn trimmed_copy_within(
     most: Ceilings,

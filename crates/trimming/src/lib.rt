@@ -1,5 +1,6 @@
 // The trimmed copy of a log, row by row: what the ways of an episode's links hold together is implied, and its links less that are written, to a lent
-// output, since nothing is allocated; what is written is counted. The matrices stand among other words, so the contracts say that they are within them.
+// output, since nothing is allocated; what is written is counted. The matrices stand among other words, so the contracts say that they are within them; `g`
+// there is every graph that stands in the words.
 #![tactic(auto)]
 
 ghost use Rattle.std.specs.Prelude.{◌≡◌, Bool, List, ℕ, ◌+◌, ◌*◌, ◌<◌, ◌≤◌, length, replicate};
@@ -45,6 +46,7 @@ fn write_word(kept: u32, first: usize, links: usize, out: &mut [u32]) -> usize
     ensures { (test : ℕ → Bool) (o : List ℕ) → TellsDigits test kept first → Listing test to_unpaused o out.old 256 links first
         → length (passing test 256) < length o → Listing test to_unpaused o out.new 256 result (first + 32) }
 {
+    // The count goes on from word to word and is given back, so `zip` with a range would be no plainer.
     let mut count = links;
     for bit in bits::ones_of(kept) {
         count += 1;
