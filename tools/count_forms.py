@@ -33,7 +33,7 @@ CLAUSE = re.compile(r"^\s*(?:requires|ensures)(?: \w+)? \{(.*?)\}$", re.M | re.S
 
 def functions(text):
     """The name, the parameters and the clauses of each function."""
-    for m in re.finditer(r"\bfn (\w+)(?:<[^>]*>)?\((.*?)\)[^{;]*?\n((?:\s*(?:requires|ensures|where)\b.*?)?)\{\n", text, re.S):
+    for m in re.finditer(r"\bfn (\w+)(?:<(?:->|<[^<>]*>|[^<>])*>)?\((.*?)\)[^{;]*?\n((?:\s*(?:requires|ensures|where)\b.*?)?)\{\n", text, re.S):
         yield m.group(1), m.group(2), m.group(3)
 
 

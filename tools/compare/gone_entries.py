@@ -8,7 +8,7 @@ ENTRIES = {
     },
     "link_count::": {
         "answer_of": "the contract of `link_count_within`: `count_answer result ≡ count_asked most log.now`",
-        "count_to_stop": "the contract of `logs::first_stop`, of any hearer: `Stopped`, and the links before the place are heard; `Counted` says what a `Counter` has heard",
+        "count_to_stop": "the contract of `Questions::first_stop`, of any hearer: `Stopped`, and the links before the place are heard; `Counted` says what a `Counter` has heard",
         "LinkCount": "`Result<usize, Refusal>`, of which `count_answer` gives the answer",
     },
     "copying::": {
@@ -48,7 +48,7 @@ ENTRIES = {
         "content_before": "`content s.log.episodes (heard_before ..)` in `Marking`; `GroupTaken` is of any links that were heard before",
     },
     "link_count/specs/Counted.antt": {
-        "LinksStopped": "`Stopped` in the contract of `logs::first_stop`, with the links before the place heard, and `Counted`, which has the field `counted` as it was",
+        "LinksStopped": "`Stopped` in the contract of `Questions::first_stop`, with the links before the place heard, and `Counted`, which has the field `counted` as it was",
     },
     "reach/specs/Reach.antt": {
         "MarkedBefore": "`Marked (links_before l p)`",
