@@ -16,9 +16,10 @@ use Rattle.logs.specs.Log.{to_before_last, group_word}
 use Rattle.logs.specs.Places.{onwards_at, Stopped}
 use Rattle.logs.specs.declared.ToWord.{ToWord}
 use Rattle.logs.specs.declared.LogWord.{LogWord}
+use Rattle.logs.specs.declared.LogWord.TheVariants.{From, To, End}
 use Rattle.logs.specs.declared.Refusal.{Refusal}
 use Rattle.logs.specs.declared.Ceilings.{Ceilings}
-use Rattle.logs.proofs.Asked.{behind, asked, to_there, there_to, group_to, group_taken, FromTaken, ToTaken}
+use Rattle.logs.proofs.Asked.{behind, asked, to_there, there_to, group_to, group_taken, from_given, FromTaken, ToTaken}
 use Rattle.logs.proofs.Places.{word_between, stop_last, stop_refused, step_from, step_to}
 
 -- at `p` a group begins, or the last word stands
@@ -35,6 +36,10 @@ pub record InGroup (m : Ceilings) (l : List ℕ) (n p t : ℕ) : Type 0 where
   pub within : p < length l
   pub few : t < p
   pub same : onwards_at m l n p true t ≡ onwards_at m l n 1 false 0
+
+-- two from words that are the same have the same number
+pub from_number : {x y : ℕ} → From x ≡ From y → x ≡ y
+from_number e = cc e
 
 pub first_group : (m : Ceilings) (l : List ℕ) (n : ℕ) → 2 ≤ length l → AtGroup m l n 1 0
 first_group m l n h = record { behind_head = omega arith; within = omega arith; few = omega arith; same = refl; begins = inl refl }
@@ -84,6 +89,18 @@ module _ (m : Ceilings) (l : List ℕ) (n p t : ℕ) where
           },
           sym (behind l (p + 1)) ∙ taken.to_follows,
         )
+
+    -- it is told as one, with its number
+    pub from_told : (w : LogWord) → r ≡ Ok w → w ≡ From (number (get_or l p 0))
+    from_told w is =
+        by_figures w
+        (cc (sym (ap word_answer is) ∙ e
+        ∙ from_given m n p (get_or l p 0) (drop (p + 1) l) (ltb 1 p) t (is_taken w is)))
+      where
+        by_figures : (w : LogWord) → ◌≡◌ {A = ℕ × ℕ × ℕ} (word_figures w) (2, number (get_or l p 0), 0) → w ≡ From (number (get_or l p 0))
+        by_figures (From x) f = ap From (ap (λ (v : ℕ × ℕ × ℕ). v.1) f)
+        by_figures (To x) f = let three : ◌≡◌ {A = ℕ} 3 2 = ap (λ (v : ℕ × ℕ × ℕ). v.0) f in absurd (omega arith)
+        by_figures (End x) f = let fifteen : ◌≡◌ {A = ℕ} 15 2 = ap (λ (v : ℕ × ℕ × ℕ). v.0) f in absurd (omega arith)
 
     -- it gives an episode
     pub from_episode : (w : LogWord) → r ≡ Ok w → (kind (get_or l p 0) ≡ 2) × (number (get_or l p 0) < n)

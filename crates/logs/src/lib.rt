@@ -365,10 +365,10 @@ impl<'a> Questions<'a> {
             }
             // A group starts with its from word, which answers question 5 for its to words, and question 6 says that it has one. A to word is
             // met here only as word 1, before any from word, and refused.
-            let Ok(_) = self.group_word(at, 1 < at, at - others) else {
+            let Ok(LogWord::From(from)) = self.group_word(at, 1 < at, at - others) else {
                 break 'log at;
             };
-            let row = H::row(number_of(log[at]));
+            let row = H::row(from);
             at += 1;
             others += 1;
             // Its to words.
