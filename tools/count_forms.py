@@ -82,7 +82,8 @@ def main():
         print(f"{name}: {len(rows)}")
         for k, v in [] if short else rows:
             print(f"    {len(v):2} {k if isinstance(k, str) else ', '.join(k)}")
-    answers = [f for f in sorted(tree.glob("crates/*/proofs/*/*.antt"))]
+    # Those of a method or of a closure stand in folders of folders.
+    answers = [f for f in sorted(tree.glob("crates/*/proofs/*/**/*.antt"))]
     text = [f.read_text() for f in answers]
     print(f"8 files of answers and invariants: {len(answers)}, lines {sum(t.count(chr(10)) for t in text)}, answers "
           f"{sum(len(re.findall(r'^pub [^:]+ : goal', t, re.M)) for t in text)}")

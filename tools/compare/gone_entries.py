@@ -90,7 +90,7 @@ ENTRIES = {
     "copying/proofs/Groups.antt": {
         "group_first group_links_lem": "`from_put`, of all links that were written",
         "group_none group_no_links": "`from_left`, of all links that were written",
-        "all size words": "`links_listed`, of which they were steps",
+        "all size words": "the contract of `copying::write_links`, which the check finds",
     },
     # ---- input
     "input/proofs/Asked.antt": {"too_many no_fours too_short enough": "the contract of `input::words_of`, `WordsTaken`; each answer the check finds, since `bytes_asked` is an `abbrev`"},
@@ -137,7 +137,7 @@ ENTRIES = {
         "taken": "a word of `bits::row_without`, whose contract is `RowLess`",
         "Taking taking_start taking_on": "the contract of `bits::row_without`, which the check finds, and of the words around `put_before` and `put_behind`",
         "taking_end": "`ends_taken`",
-        "rise_more": "`rise_test`, of all rows at once, and `row_test`, of one",
+        "rise_more": "`rise_test`, of all rows at once, and the contract of `row_rises`, which the check finds",
         "links_still": "`all_still`: nothing but the row of ways of `a` changes",
         "noted_none": "the contract of `rising::note_linked`; the case without a link the check finds",
     },

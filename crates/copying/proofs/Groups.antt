@@ -1,18 +1,16 @@
 -- The words of a group, once the numbers that pass a test have been written: those that are marked in a row, or others.
-use mathlib.Core.Path.{◌≡◌, refl, sym, subst, ◌∙◌}
+use mathlib.Core.Path.{◌≡◌, refl, sym, ◌∙◌}
 use mathlib.Core.Logic.{◌≢◌}
-use mathlib.Core.Bool.{Bool, true, false}
+use mathlib.Core.Bool.{true, false}
 use mathlib.Core.List.{List, [], ◌∷◌, map}
 use Prim.Native.Nat.{ℕ, ◌+◌, ◌≤◌, ◌<◌}
 use native.Mathlib.Omega.{arith}
 use lib.ListN.{length, get_or, set, length-append}
 use borrow.Author.Tests.{eq-eqb, ne_eqb}
-use Rattle.paths.specs.Passing.{passing}
 use Rattle.paths.proofs.Passing.{passing_more, passing_le}
 use Rattle.logs.specs.Words.{word, to_word}
 use Rattle.writing.specs.Layout.{BeginsWith}
 use Rattle.writing.proofs.Buffers.{begins_itself, begins_first, begins_length}
-use Rattle.writing.proofs.Listing.{Listing}
 use Rattle.copying.specs.FairCopy.{group}
 use Rattle.copying.specs.Copying.{marked_at, marked, LinksWritten, GroupWritten}
 
@@ -30,16 +28,6 @@ marked_room row b h ne =
     rw (passing_more (marked_at row) b (is_marked row b ne)) (length-append (marked row b) (b ∷ [])) in
     let some = passing_le (marked_at row) (b + 1) (length row) (omega arith) in
     omega arith
-
--- once all numbers are gone through, the links are written
-pub links_listed : (test : ℕ → Bool) (pause : ℕ → ℕ) (o o' : List ℕ) (n links b : ℕ) → Listing test (λ c. to_word c (pause c)) o o' n links b → n ≤ b
-    → LinksWritten pause (passing test n) o o' links
-links_listed test pause o o' n links b s done =
-    let all : b ≡ n = omega (arith, s.item) in
-    record {
-      count = rw all at s.size;
-      words = subst (λ (k : ℕ). BeginsWith (get_or o 0 0 ∷ map (λ (c : ℕ). to_word c (pause c)) (passing test k)) o o') all s.words;
-    }
 
 -- the from word of a group goes in front of its to words; a group of no links has no words
 module _ (a : ℕ) {pause : ℕ → ℕ} {o o' : List ℕ} {links : ℕ} where

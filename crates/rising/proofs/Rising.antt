@@ -12,8 +12,6 @@ use Rattle.paths.proofs.Ways.{way_trans, way_first}
 use Rattle.std.specs.Prelude.{Option, Some, None, IfSome}
 use Rattle.std.specs.Option.{is_some}
 use mathlib.Core.Bool.{Bool, true, false, true≢false}
-use lib.Dec.{ltb}
-use borrow.Author.Tests.{ltb-true, ltb-false}
 use Rattle.std.specs.Bool.{MatchBool}
 use Rattle.std.specs.List.{AllWithin, HoldsAt, range_with_len}
 use Rattle.std.proofs.lemmas.List.FromFn.{length-range_with_len, get_or-range_with_len}
@@ -26,29 +24,6 @@ use Rattle.bits.proofs.Frames.{bit_before, matrix_before, row_other}
 use Rattle.rising.specs.Rising.{NoWays, RowTest, RiseTest, LinksRise, WayFrom, EndsTaken, LinkedFrom, RowReached, LinkNoted, RisingReached}
 
 -- ---- whether links rise
-
--- a row rises where its first bit is that of a higher number, and where it has none
-row_none : {w : List ℕ} {a : ℕ} → FirstBit w (links_at + 8 * a) 256 → RowTest w a true
-row_none f = record { all = λ e b h o. let z = f.none b h in absurd (omega arith); not_all = λ e. absurd (true≢false e) }
-
-row_first : {w : List ℕ} {a b : ℕ} {r : Bool} → FirstBit w (links_at + 8 * a) b → b < 256 → r ≡ ltb a b → RowTest w a r
-row_first {w} {a} {b} {r} f h e =
-    record {
-      all = λ t c hc o. let lo : a < b = ltb-true a b (sym e ∙ t) in let none = f.none c in omega (arith, at_first c o);
-      not_all = λ t. let hi : b ≤ a = ltb-false a b (sym e ∙ t) in (b, h, f.here h, hi);
-    }
-  where
-    at_first : (c : ℕ) → bit w (links_at + 8 * a) c ≡ 1 → b ≤ c
-    at_first c o = go (dec_lt c b)
-      where
-        go : Dec (c < b) → b ≤ c
-        go (yes l) = let z = f.none c l in absurd (omega arith)
-        go (no l) = omega arith
-
-pub row_test : {w : List ℕ} {a : ℕ} (o : Option ℕ) (r : Bool) → FirstBit w (links_at + 8 * a) (place_or_end o) → IfSome o (λ b. b < 256)
-    → (o ≡ None → r ≡ true) → ((b : ℕ) → o ≡ Some b → r ≡ ltb a b) → RowTest w a r
-row_test {w} {a} None r f below none some = subst (RowTest w a) (sym (none refl)) (row_none f)
-row_test (Some b) r f below none some = row_first f below (some b refl)
 
 -- the first `n` rows rise where each of them does
 pub rise_test : {w : List ℕ} {n : ℕ} (r : Bool)

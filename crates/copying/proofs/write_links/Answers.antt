@@ -4,7 +4,7 @@ use lib.ListN.{length}
 use Rattle.logs.specs.Words.{to_word}
 use Rattle.writing.proofs.Listing.{listing_none, listing_more, listing_same}
 use Rattle.copying.specs.Copying.{marked_at, pause_at}
-use Rattle.copying.proofs.Groups.{is_marked, not_marked, marked_room, links_listed}
+use Rattle.copying.proofs.Groups.{is_marked, not_marked, marked_room}
 use Rattle.copying.proofs.write_links.Goals as goal
 use Rattle.copying.proofs.write_links.Goals.{in-Some, in_default}
 
@@ -37,9 +37,3 @@ loop-b-preserved c =
           (listing_same (marked_at row) (λ b. to_word b (pause_at row b)) a.out.now at.out (length row) at.links at.b at.invariant (omega arith)
           (not_marked row at.b (omega (arith, p.in_default.ensures))))
     ]
-
-pub returns : goal.returns
-returns c =
-    let row = c.args.row.now in
-    let at = c.loop-b in
-    links_listed (marked_at row) (pause_at row) c.args.out.now at.out (length row) at.links at.b at.invariant (omega arith)

@@ -2,8 +2,6 @@ use mathlib.Core.Path.{◌≡◌, subst}
 use Prim.Native.Nat.{ℕ, ◌+◌, ◌*◌}
 use native.Mathlib.Omega.{arith}
 use Rattle.writing.proofs.Listing.{Listing, listing_none}
-use Rattle.copying.proofs.Groups.{links_listed}
-use Rattle.trimming.specs.TrimmedCopy.{no_pause}
 use Rattle.trimming.specs.Trimming.{kept_at, to_unpaused}
 use Rattle.trimming.proofs.Rows.{word_tells}
 use Rattle.trimming.proofs.write_row.Goals as goal
@@ -27,9 +25,3 @@ loop-i-preserved c =
     subst (λ (v : ℕ). Listing (kept_at c.args.w.now a c.args.implied.now) to_unpaused c.args.out.now written.new.out 256 written.result v) next
     (written.ensures (kept_at c.args.w.now a c.args.implied.now) c.args.out.now (word_tells a c.loop-i.i c.row_without.ensures p (omega arith))
     (c.loop-i.invariant a p) (rw same at room))
-
-pub returns : goal.returns
-returns c =
-    λ a p.
-    links_listed (kept_at c.args.w.now a c.args.implied.now) (no_pause a) c.args.out.now c.loop-i.out 256 c.loop-i.links (32 * c.loop-i.i)
-    (c.loop-i.invariant a p) (omega arith)

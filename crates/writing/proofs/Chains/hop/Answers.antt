@@ -2,13 +2,8 @@ use Rattle.std.proofs.Common.{arith}
 use Rattle.std.proofs.lemmas.Bool.Decides.{nat_tests}
 use Rattle.bits.specs.Work.{ways_at}
 use Rattle.bits.proofs.Rows.{bit_column}
-use Rattle.writing.proofs.Hops.{hop_start, hop_next, hop_done, hop_nearer}
+use Rattle.writing.proofs.Hops.{hop_next, hop_done, hop_nearer}
 use Rattle.writing.proofs.Chains.hop.Goals as goal
-
-pub loop-x-init : goal.loop-x-init
-loop-x-init c =
-    let (words, row, from) = c.bits_of-x-items.ensures in
-    (tt, tt, rw c.into_iter-x-iterator.ensures.into_iter_gives (hop_start c.bits_of-x-items.result words row from))
 
 pub returns-then-digit_at : goal.returns-then-digit_at
 returns-then-digit_at c =
