@@ -60,6 +60,7 @@ ENTRIES = {
         "rest_less": "`lowest_less`",
     },
     "bits/proofs/Rows.antt": {
+        "row_joined": "the contract of `bits::join_row`, which the check finds",
         "adding_more gaining_more": "`joining_more`, which the loop of `bits::join` takes; for a row that is part of a buffer `row_gained`",
         "Copying copying_none copying_more": "the contract of `bits::copy_row`: std's `copy_from_slice`, and of the words around `put_before`, `put_behind` and `put_here`",
         "NoneBefore first_here none_here": "`NoneFrom`, `none_then_first` and `none_then_none`, which are of any row of words and any first place",
@@ -123,7 +124,8 @@ ENTRIES = {
     "trimming/proofs/Joining.antt": {"link_digit old_digit": "`new_digit`, of both"},
     "trimming/proofs/Rows.antt": {"fresh_test": "`new_test`", "group_holds": "`links_fewer`, in `copying/proofs/Linked.antt`"},
     # ---- reach
-    "reach/proofs/Reached.antt": {"matrix_copied": "`matrix_same`, between any two places", "copying_end": "the contract of `reach::copy_links`: std's `copy_from_slice`"},
+    "reach/proofs/Rounds.antt": {"round_start": "the contract of `reach::close_round`; that `InRound` holds at first the check finds"},
+    "reach/proofs/Reached.antt": {"matrix_copied": "`matrix_same`, between any two places", "rising_reached": "the contract of `reach::reach_ways`; the case of links that rise the check finds", "copying_end": "the contract of `reach::copy_links`: std's `copy_from_slice`"},
     # ---- report
     "report/proofs/Asked.antt": {"asked_short_output asked_short_work": "`asked_read`, with `lent` by cases"},
     "report/proofs/Answers.antt": {"none_sought": "`LoopSought` by cases, in the contract of `report::show_loop`", "still_ready": "`LoopSought` by cases: where there is no loop the work words are as before"},
@@ -139,7 +141,7 @@ ENTRIES = {
         "taking_end": "`ends_taken`",
         "rise_more": "`rise_test`, of all rows at once, and the contract of `row_rises`, which the check finds",
         "links_still": "`all_still`: nothing but the row of ways of `a` changes",
-        "noted_none": "the contract of `rising::note_linked`; the case without a link the check finds",
+        "noted_none noted_link": "the contract of `rising::note_linked`, which the check finds",
     },
     # ---- searching
     "searching/proofs/Deads.antt": {"dead_none": "the goals of `chains::extend_all` and `chains::find_loop`, which the check finds"},

@@ -1,13 +1,13 @@
 -- A part of a list of words written over, and a row by itself.
 use mathlib.Core.Path.{◌≡◌, sym, ap, ◌∙◌}
 use mathlib.Core.List.{List, ◌++◌}
-use Prim.Native.Nat.{ℕ, ◌+◌, ◌-◌, ◌*◌, ◌/◌, ◌%◌, ◌≤◌, ◌<◌, max}
+use Prim.Native.Nat.{ℕ, ◌+◌, ◌-◌, ◌/◌, ◌%◌, ◌≤◌, ◌<◌, max}
 use native.Mathlib.Omega.{arith}
 use lib.ListN.{length, get_or, take, drop, length-append, length-drop, get_or-append}
 use lib.Seq.{length-take-le, get_or-take, get_or-drop, drop_at}
 use borrow.Rule.Slice.PartMut.{mid_of, put_mid, take_put}
 use Rattle.std.proofs.lemmas.Slice.{drop-put_mid}
-use Rattle.bits.specs.Bits.{digit, bit, RowAdded, RowGained, RowTaken, RowCopied, RowJoined}
+use Rattle.bits.specs.Bits.{digit, bit, RowAdded, RowGained, RowTaken, RowCopied}
 
 -- the words from `a` on are `ys`, in the place of `k` as many
 module _ (a k : ℕ) (xs ys : List ℕ) (fits : a + k ≤ length xs) (many : length ys ≡ k) where
@@ -83,15 +83,3 @@ module _ (w : List ℕ) (k : ℕ) (eight : k ≡ 8) where
           behind = λ i h. put_behind row k w v (omega arith) many i (omega arith);
           copied = λ b h. bit_put many b h ∙ t.taken b h;
         }
-
--- a row taken out of the matrix and joined into another of its rows
-pub row_joined : {w w' v : List ℕ} {to from : ℕ} → RowTaken w from v → RowGained v w w' to → (base a k : ℕ) → to ≡ base + 8 * a → from ≡ base + 8 * k
-    → RowJoined w w' base a k
-row_joined {w} {w'} {v} {to} {from} t s base a k p q =
-    let r : RowGained v w w' (base + 8 * a) = rw p at s in
-    record {
-      same_length = r.same_length;
-      before = r.before;
-      behind = r.behind;
-      joined = λ b h. r.joined b h ∙ ap (λ x. max (bit w (base + 8 * a) b) x) (t.taken b h ∙ ap (λ i. bit w i b) q);
-    }

@@ -12,7 +12,7 @@ use Rattle.logs.specs.Log.{graph_of, PassesWith}
 use Rattle.logs.proofs.Laws.{graph_episodes, links_below}
 use Rattle.bits.specs.Work.{links_at, ways_at, matrix_words, Matrix, next_at}
 use Rattle.bits.proofs.Frames.{outside_then, outside_wider, matrix_before}
-use Rattle.rising.specs.Rising.{NoWays, BitsRise, LinksRise, RisingReached}
+use Rattle.rising.specs.Rising.{NoWays, BitsRise, LinksRise}
 use Rattle.rising.proofs.Front.{matrix_same, matrix_all, outside_all}
 use Rattle.reach.specs.Reach.{NoneMarked, LinksMarked, LinksCopied, Closed, WaysReached, ReachedLog}
 
@@ -22,10 +22,6 @@ links_rise : (w : List ℕ) (n : ℕ) (g : Graph) → n ≤ 256 → EndsBelow g 
 links_rise w n g few ends e m rise a b l =
     let (ha, hb) = ends a b l in
     (rise a b (omega arith) (omega arith) (m.complete a b (omega arith) (omega arith) l), omega arith)
-
-pub rising_reached : (w w' : List ℕ) (n : ℕ) → n ≤ 256 → BitsRise w n → RisingReached w w' n → WaysReached w w' n
-rising_reached w w' n few rise r =
-    record { outside = r.outside; ways = λ g ends e m. r.ways g ends e (links_rise w n g few ends e m rise) m }
 
 -- ---- other links: copied and closed
 

@@ -9,7 +9,7 @@ use native.Mathlib.Omega.{arith}
 use Rattle.paths.specs.Graph.{Graph, EndsBelow, Link}
 use Rattle.paths.specs.Closure.{WayBelow}
 use Rattle.paths.proofs.Ways.{below_way, way_below, way_first}
-use Rattle.bits.specs.Bits.{bit, RowTaken, RowGained}
+use Rattle.bits.specs.Bits.{bit, RowGained}
 use Rattle.bits.specs.Work.{ways_at, Matrix, Outside, next_at}
 use Rattle.bits.proofs.Rows.{bit_lt}
 use Rattle.reach.specs.Reach.{HoldsWays, RowClosed, RoundClosed, Closed}
@@ -106,19 +106,6 @@ pub record InRound (w w' v : List ℕ) (n k a : ℕ) : Type 0 where
   pub at_most : a ≤ n
   pub held : HoldsWays w' k v
   pub ways : (g : Graph) → Matrix ways_at w (WayBelow g k) → Matrix ways_at w' (By (WayBelow g k) k a)
-
-pub round_start : (w v : List ℕ) (n k : ℕ) → RowTaken w (ways_at + 8 * k) v → InRound w w v n k 0
-round_start w v n k q =
-    record {
-      outside = outside_none ways_at next_at w;
-      at_most = omega arith;
-      held = q.taken;
-      ways = λ g m.
-          record {
-            sound = λ x y hx hy o. inl (m.sound x y hx hy o);
-            complete = λ x y hx hy r. m.complete x y hx hy (⊎_elim (λ q. q) (λ q. absurd (omega (arith, q.0))) r);
-          };
-    }
 
 pub round_row : (w w' w'' v : List ℕ) (n k a : ℕ) → k < 256 → a < n → n ≤ 256 → InRound w w' v n k a → RowClosed w' w'' a k
     → InRound w w'' v n k (a + 1)

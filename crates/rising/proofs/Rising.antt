@@ -9,13 +9,11 @@ use borrow.Rule.Slice.PartMut.{put_mid}
 use lib.ListN.{length}
 use Rattle.paths.specs.Graph.{Graph, EndsBelow, Link, Way, one, step}
 use Rattle.paths.proofs.Ways.{way_trans, way_first}
-use Rattle.std.specs.Prelude.{Option, Some, None, IfSome}
-use Rattle.std.specs.Option.{is_some}
 use mathlib.Core.Bool.{Bool, true, false, true≢false}
 use Rattle.std.specs.Bool.{MatchBool}
 use Rattle.std.specs.List.{AllWithin, HoldsAt, range_with_len}
 use Rattle.std.proofs.lemmas.List.FromFn.{length-range_with_len, get_or-range_with_len}
-use Rattle.bits.specs.Bits.{bit, BitSet, RowJoined, RowLess, FirstBit, NextNew, place_or_end}
+use Rattle.bits.specs.Bits.{bit, BitSet, RowJoined, RowLess, NextNew}
 use Rattle.bits.specs.Work.{links_at, ways_at, Matrix, Outside, next_at}
 use Rattle.bits.proofs.Rows.{bit_lt, bits_zero, bit_less, new_bit}
 use Rattle.bits.proofs.Parts.{put_length, put_before, put_behind, bit_put}
@@ -275,18 +273,6 @@ module _ {w v w' linked : List ℕ} {a b : ℕ} (ha : a < 256) (t : EndsTaken w 
       complete g rise r m x y hx hy (from, way) (no ne) = rw (same x y hy ne) (m.complete x y hx hy (omega (arith, ne), way))
 
 -- ---- all rows
-
--- `a` has a link
-pub noted_link : (w : List ℕ) (a : ℕ) (linked linked' : List ℕ) (r : Option ℕ) → FirstBit w (links_at + 8 * a) (place_or_end r)
-    → IfSome r (λ b. b < 256) → true ≡ is_some r → BitSet linked linked' 0 a → LinkNoted w a linked linked'
-noted_link w a linked linked' (Some r) f h e s =
-    record {
-      same_length = s.same_length;
-      here = λ b hb o. s.here;
-      none = λ z. absurd (omega (arith, f.here h, z r h));
-      others = s.others;
-    }
-noted_link w a linked linked' None f h e s = absurd (true≢false e)
 
 -- After the rows from `a` on.
 pub record InRising (w w' linked : List ℕ) (n a : ℕ) : Type 0 where

@@ -1,9 +1,6 @@
 use native.Mathlib.Omega.{arith}
-use Rattle.reach.proofs.Rounds.{round_start, round_row, round_end}
+use Rattle.reach.proofs.Rounds.{round_row, round_end}
 use Rattle.reach.proofs.close_round.Goals as goal
-
-pub loop-a-init : goal.loop-a-init
-loop-a-init c = round_start c.args.w.now _ c.args.n c.args.k c.row_at-ways.ensures
 
 pub loop-a-preserved : goal.loop-a-preserved
 loop-a-preserved c =

