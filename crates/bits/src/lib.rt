@@ -1,5 +1,6 @@
 // Rows of bits in lent words: 8 words, 256 bits, to a row. The words may be longer than what is used of them and the row begin anywhere, so the
-// contracts say that it is within them; the bound of a number stands where the number is a parameter by itself. `as` stands between u32 and usize, since neither has a `From` for the other.
+// contracts say that it is within them; the bound of a number stands where the number is a parameter by itself. `as` stands between u32 and usize,
+// since neither has a `From` for the other.
 #![tactic(auto)]
 
 ghost use Rattle.std.specs.Prelude.{◌≡◌, ℕ, ◌+◌, ◌-◌, ◌*◌, ◌/◌, ◌<◌, ◌≤◌, IfSome, eqb, length, get_or, replicate};

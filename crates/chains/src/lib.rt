@@ -1,6 +1,6 @@
 // Chains of items in the work words: first pairs as they come, then an augmenting search from the end of each chain, which joins it to another.
-// What a search has seen in vain is dead: no later search looks at it. `w, base, m, a`
-// go together as in `searching`, and the contracts say what a function wants of the words.
+// What a search has seen in vain is dead: no later search looks at it. `w, base, m, a` go together as in `searching`, and the contracts say what a
+// function wants of the words.
 #![tactic(auto)]
 
 ghost use Rattle.std.specs.Prelude.{◌+◌, ◌<◌};

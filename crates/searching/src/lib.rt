@@ -1,6 +1,7 @@
 // Chains of items in the work words, and an augmenting search from the end of one of them. The tables stand in lent words, since nothing is
-// allocated; these may be longer than the regions, so the contracts say that the regions are within them, and the bound of a number where the number is a parameter by itself. `w, base, m, a` go together: a struct of
-// them was tried and was longer, since `search` takes them one by one. `as` stands between u32 and usize, since neither has a `From` for the other.
+// allocated; these may be longer than the regions, so the contracts say that the regions are within them, and the bound of a number where the number
+// is a parameter by itself. `w, base, m, a` go together: a struct of them was tried and was longer, since `search` takes them one by one. `as` stands
+// between u32 and usize, since neither has a `From` for the other.
 #![tactic(auto)]
 
 ghost use Rattle.std.specs.Prelude.{◌≡◌, ◌<◌, ◌≤◌, length, get_or, unwrap_or, IfSome};

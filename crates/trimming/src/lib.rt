@@ -1,6 +1,6 @@
 // The trimmed copy of a log, row by row: what the ways of an episode's links hold together is implied, and its links less that are written, to a lent
-// output, since nothing is allocated; what is written is counted. The matrices stand among other words, so the contracts say that they are within them; `g`
-// there is every graph that stands in the words.
+// output, since nothing is allocated; what is written is counted. The matrices stand among other words, so the contracts say that they are within
+// them; `g` there is every graph that stands in the words.
 #![tactic(auto)]
 
 ghost use Rattle.std.specs.Prelude.{◌≡◌, Bool, List, ℕ, ◌+◌, ◌*◌, ◌<◌, ◌≤◌, length, replicate};
@@ -34,6 +34,7 @@ fn note_implied(w: &[u32], row: usize, implied: &mut [u32; 8])
     requires { (next_at ≤ length w.now) × (row + 8 ≤ ways_at) × (implied.old ≡ replicate 8 0) }
     ensures { (a : ℕ) → row ≡ links_at + 8 * a → HoldsImplied w.now a implied.new }
 {
+    // `implied` by place, since each turn joins into it.
     for (i, links) in w[row..row + 8].iter().enumerate() {
         join_ways(w, bits::without(*links, implied[i]), 32 * i, implied);
     }

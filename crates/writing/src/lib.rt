@@ -1,6 +1,6 @@
 // Writes the words of a report or of a loop, from the chains in the work words, to a lent output, since nothing is allocated; what is written is
-// counted. A chain is followed by `while let`: the checker holds `successors` to be endless, and an iterator of our own would have the loops' measures as
-// its laws, and be longer than the loops. `g` and `n` in a contract are of every graph that stands in the words.
+// counted. A chain is followed by `while let`: the checker holds `successors` to be endless, and an iterator of our own would have the loops'
+// measures as its laws, and be longer than the loops. `g` and `n` in a contract are of every graph that stands in the words.
 #![tactic(auto)]
 
 ghost use Rattle.std.specs.Prelude.{◌≡◌, List, ◌∷◌, ℕ, ◌+◌, ◌*◌, ◌-◌, ◌<◌, ◌≤◌, length};
