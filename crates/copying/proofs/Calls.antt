@@ -14,11 +14,11 @@ use Rattle.logs.specs.declared.passed.Log.{Log}
 use Rattle.logs.proofs.Laws.{graph_episodes}
 use Rattle.copying.specs.FairCopy.{linked_to, group, copy_words}
 use Rattle.copying.specs.Copying.{BlockMarks, LinksWritten}
-use Rattle.copying.specs.Calls.{RoomFor, CalledBelow, WritesGroups}
+use Rattle.copying.specs.Calls.{RoomFor, CalledBelow, WritesLinks}
 use Rattle.copying.proofs.Rows.{next_block}
 use Rattle.copying.proofs.Copies.{Copying, copying_room, few_links, links_room}
 
--- calls write the groups if what they need before the group of an episode, they leave for the next
+-- calls write the links if what they need before those of an episode, they leave for the next
 module _ {F : Type 0} (pre : F → ℕ → MutBor (List ℕ) → Type 0) (step : F → ℕ → MutBor (List ℕ) → ℕ → MutBor (List ℕ) → F → Type 0)
     (pause : ℕ → ℕ → ℕ) (g : Graph) (Ready : ℕ → F → Type 0)
     (may : (a : ℕ) (f : F) (o : MutBor (List ℕ)) → a < g.n → Ready a f → RoomFor pause g a o.now → pre f a o)
@@ -29,8 +29,8 @@ module _ {F : Type 0} (pre : F → ℕ → MutBor (List ℕ) → Type 0) (step :
   ready (suc a) f f' first h (e, o, o', r, before, room, s) =
       rw (← add-one) (writes a r e f' o o' (omega arith) (ready a f e first (omega arith) before) room s).0
 
-  pub writes_groups : (f : F) → Ready 0 f → WritesGroups pre step pause g f
-  writes_groups f first =
+  pub writes_links : (f : F) → Ready 0 f → WritesLinks pre step pause g f
+  writes_links f first =
       record {
         may = λ a e o before h room. may a e o h (ready a f e first (omega arith) before) room;
         writes = λ a r e e' o o' before h room s. (writes a r e e' o o' h (ready a f e first (omega arith) before) room s).1;
@@ -38,7 +38,7 @@ module _ {F : Type 0} (pre : F → ℕ → MutBor (List ℕ) → Type 0) (step :
 
 -- the next call, for the group of `a`, behind those below
 module _ {F : Type 0} {pre : F → ℕ → MutBor (List ℕ) → Type 0} {step : F → ℕ → MutBor (List ℕ) → ℕ → MutBor (List ℕ) → F → Type 0}
-    {pause : ℕ → ℕ → ℕ} {g : Graph} {f e : F} {o o' : List ℕ} {words links a : ℕ} (calls : WritesGroups pre step pause g f)
+    {pause : ℕ → ℕ → ℕ} {g : Graph} {f e : F} {o o' : List ℕ} {words links a : ℕ} (calls : WritesLinks pre step pause g f)
     (fits : length (copy_words pause g) ≤ length o) (before : CalledBelow pre step pause g f a e) (s : Copying pause g o o' words links a) (h : a < g.n)
   where
     pub next_may : (p : MutBor (List ℕ)) → p.now ≡ take (length o' - words) (drop words o') → pre e a p
@@ -82,16 +82,16 @@ record Ready (l : Log) (a : ℕ) (f : Held) : Type 0 where
   log : f.0.now ≡ l
   marks : a % 64 ≢ 0 → BlockMarks (a / 64) (content_of l.words.now) f.1.now
 
--- then they write the groups of the log's graph
-pub fair_groups : (pre : Held → ℕ → MutBor (List ℕ) → Type 0) (step : Held → ℕ → MutBor (List ℕ) → ℕ → MutBor (List ℕ) → Held → Type 0)
+-- then they write the links of the log's graph
+pub fair_links : (pre : Held → ℕ → MutBor (List ℕ) → Type 0) (step : Held → ℕ → MutBor (List ℕ) → ℕ → MutBor (List ℕ) → Held → Type 0)
     → ((a : ℕ) (f : Held) (o : MutBor (List ℕ)) → Asked f a o.now → pre f a o)
     → ((a r : ℕ) (f f' : Held) (o o' : MutBor (List ℕ)) → step f a o r o' f' → Left f a o.now r o'.now f')
     → (f : Held) → f.0.now.episodes ≤ 256
-    → WritesGroups pre step (least_pause (content_of f.0.now.words.now)) (graph_of f.0.now.words.now) f
-fair_groups pre step may leave f few =
+    → WritesLinks pre step (least_pause (content_of f.0.now.words.now)) (graph_of f.0.now.words.now) f
+fair_links pre step may leave f few =
     let l = f.0.now in
     let count : (graph_of l.words.now).n ≡ l.episodes = graph_episodes _ l.words.now l.episodes l.to_words l.passes in
-    writes_groups pre step (least_pause (content_of l.words.now)) (graph_of l.words.now) (Ready l)
+    writes_links pre step (least_pause (content_of l.words.now)) (graph_of l.words.now) (Ready l)
     (λ a e o h s room.
     may a e o
     (record {

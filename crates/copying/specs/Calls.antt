@@ -18,7 +18,7 @@ module _ {F : Type 0} (pre : F → ℕ → MutBor (List ℕ) → Type 0) (step :
   CalledBelow f (suc a) f' = (e : F) × (o o' : MutBor (List ℕ)) × (r : ℕ) × CalledBelow f a e × RoomFor pause g a o.now × step e a o r o' f'
 
   -- called for each episode in turn, `f` writes its links
-  pub record WritesGroups (f : F) : Type 0 where
+  pub record WritesLinks (f : F) : Type 0 where
     pub may : (a : ℕ) (e : F) (o : MutBor (List ℕ)) → CalledBelow f a e → a < g.n → RoomFor pause g a o.now → pre e a o
     pub writes : (a r : ℕ) (e e' : F) (o o' : MutBor (List ℕ)) → CalledBelow f a e → a < g.n → RoomFor pause g a o.now → step e a o r o' e'
         → LinksWritten (pause a) (linked_to a g.links g.n) o.now o'.now r

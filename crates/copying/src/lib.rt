@@ -10,7 +10,7 @@ ghost use Rattle.logs.specs.Log.{content_of, graph_of};
 ghost use Rattle.logs.specs.Groups.{EpisodesBelow};
 ghost use Rattle.writing.specs.Layout.{BeginsWith};
 ghost use Rattle.copying.specs.FairCopy.{linked_to, group, copy_words, fair_words};
-ghost use Rattle.copying.specs.Calls.{WritesGroups};
+ghost use Rattle.copying.specs.Calls.{WritesLinks};
 ghost use Rattle.paths.specs.Graph.{Graph};
 ghost use Rattle.copying.specs.Copying.{BlockMarks, Lowered, GroupTaken, marked, pause_at, group_length, LinksWritten, GroupWritten, GroupsWritten};
 
@@ -114,9 +114,9 @@ fn write_groups<F: FnMut(usize, &mut [u32]) -> usize>(
     out: &mut [u32],
     mut write_row: F,
 ) -> Written
-    requires { (pause : ℕ → ℕ → ℕ) × (g : Graph) × WritesGroups F.pre F.step pause g write_row × (g.n ≡ n) × Small n
+    requires { (pause : ℕ → ℕ → ℕ) × (g : Graph) × WritesLinks F.pre F.step pause g write_row × (g.n ≡ n) × Small n
         × Small (length g.links) × (length (copy_words pause g) ≤ length out.old) }
-    ensures { (pause : ℕ → ℕ → ℕ) (g : Graph) → WritesGroups F.pre F.step pause g write_row → g.n ≡ n → length (copy_words pause g) ≤ length out.old
+    ensures { (pause : ℕ → ℕ → ℕ) (g : Graph) → WritesLinks F.pre F.step pause g write_row → g.n ≡ n → length (copy_words pause g) ≤ length out.old
         → GroupsWritten pause g out.old out.new result.words result.links }
 {
     let mut words = 1;
@@ -146,9 +146,9 @@ pub fn write_by_rows<F: FnMut(usize, &mut [u32]) -> usize>(
     out: &mut [u32],
     write_row: F,
 ) -> usize
-    requires { (pause : ℕ → ℕ → ℕ) × (g : Graph) × WritesGroups F.pre F.step pause g write_row × (g.n ≡ n) × Small n
+    requires { (pause : ℕ → ℕ → ℕ) × (g : Graph) × WritesLinks F.pre F.step pause g write_row × (g.n ≡ n) × Small n
         × Small (length g.links) × (length (copy_words pause g) ≤ length out.old) }
-    ensures { (pause : ℕ → ℕ → ℕ) (g : Graph) → WritesGroups F.pre F.step pause g write_row → g.n ≡ n → length (copy_words pause g) ≤ length out.old
+    ensures { (pause : ℕ → ℕ → ℕ) (g : Graph) → WritesLinks F.pre F.step pause g write_row → g.n ≡ n → length (copy_words pause g) ≤ length out.old
         → (result ≡ length (copy_words pause g)) × BeginsWith (copy_words pause g) out.old out.new }
 {
     let groups = write_groups(n, out, write_row);

@@ -28,8 +28,8 @@ pub fn put_behind(w: &mut [u32], a: usize, b: usize)
     w[PREV + b] = (a + 1) as u32;
 }
 
-// The item that the word at `place` of a table names: the word is the item plus one, or 0 for none, since a table has one word for each
-// item.
+// What the word at `place` of a table names, an item or a place in the queue: the word is that plus one, or 0 for none, since a table has one word
+// for each item.
 fn item_at(w: &[u32], place: usize) -> Option<usize>
     requires { place < length w.now }
     ensures { figure result ≡ get_or w.now place 0 }

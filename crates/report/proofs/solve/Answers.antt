@@ -1,9 +1,12 @@
 -- `report::solve` meets its contract: the work words are made zero last. Assumes nothing.
-use mathlib.Core.Path.{◌≡◌}
+use mathlib.Core.Path.{◌≡◌, ap, ◌∙◌}
+use Prim.Native.Nat.{ℕ}
 use native.Mathlib.Omega.{arith}
-use lib.ListN.{length}
+use lib.ListN.{length, replicate}
 use Rattle.report.specs.Report.{work_words}
 use Rattle.report.proofs.solve.Goals as goal
 
 pub returns-clause-cleared : goal.returns-clause-cleared
-returns-clause-cleared g c = let long : length c.answer-result.new.arg4 ≡ work_words = omega arith in rw long at c.clear.ensures
+returns-clause-cleared g c =
+    let long : length c.answer-result.new.arg4 ≡ work_words = omega arith in
+    c.clear.ensures ∙ ap (λ (k : ℕ). replicate k 0) long

@@ -1,10 +1,10 @@
--- `trimming::write_trimmed` meets its contract: its calls write the groups of the links that stay.
+-- `trimming::write_trimmed` meets its contract: its calls write the links that stay.
 -- Assumes nothing.
 use native.Mathlib.Omega.{arith}
 use Rattle.std.proofs.Common.{rules}
 use Rattle.trimming.specs.TrimmedCopy.{trimmed, no_pause}
 use Rattle.trimming.proofs.Kept.{trimmed_few}
-use Rattle.trimming.proofs.Calls.{count_kept, trimmed_groups}
+use Rattle.trimming.proofs.Calls.{count_kept, trimmed_links}
 use Rattle.trimming.proofs.write_trimmed.Goals as goal
 
 pub write_by_rows-requires : goal.write_by_rows-requires
@@ -12,7 +12,7 @@ write_by_rows-requires c =
     let (g, held, fits) = c.requires in (
       no_pause,
       trimmed g,
-      trimmed_groups _ _ (λ a f o asked. search rules) (λ a r f f' o o' called. search rules) _ g held,
+      trimmed_links _ _ (λ a f o asked. search rules) (λ a r f f' o o' called. search rules) _ g held,
       count_kept held,
       omega (arith, held.few),
       omega (arith, trimmed_few g, held.small),
@@ -23,5 +23,5 @@ pub returns : goal.returns
 returns c =
     λ g held fits.
     c.write_by_rows.ensures no_pause (trimmed g)
-    (trimmed_groups _ _ (λ a f o asked. search rules) (λ a r f f' o o' called. search rules) _ g held)
+    (trimmed_links _ _ (λ a f o asked. search rules) (λ a r f f' o o' called. search rules) _ g held)
     (count_kept held) fits
