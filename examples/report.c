@@ -17,6 +17,7 @@ static const struct {
 } refused[] = {
     {1, 1, {0x10000005}},                                     /* fewer than two words */
     {2, 2, {0x20000005, 0xF0000000}},                         /* no head */
+    {18, 2, {ZOHAPY_HEAD_WORD(2, 5), 0xF0000000}},            /* version 2 */
     {3, 2, {0x100000C9, 0xF0000000}},                         /* 201 episodes */
     {4, 3, {0x10000005, 0x70000000, 0xF0000000}},             /* neither a from word nor a to word */
     {5, 3, {0x10000005, 0x30000001, 0xF0000001}},             /* a to word before any from word */
@@ -32,6 +33,13 @@ static const uint32_t beside[] = {0x10000003, 0x20000000, 0x30000001, 0x30000002
 /* 3 episodes and the link 0-2 with a pause of 20 minutes, 0-1 with one of 90 and again with one of 45. */
 static const uint32_t paused[] = {
     0x10000003, 0x20000000, ZOHAPY_TO_WORD(2, 20), ZOHAPY_TO_WORD(1, 90), ZOHAPY_TO_WORD(1, 45), 0xF0000003,
+};
+
+/* Version 1, 3 episodes and the links 0-1 with a pause of 400 minutes and again with one of 200, and 1-2 with one of 361. In
+ * version 1 that is too long: 1-2 does not count. */
+static const uint32_t long_pauses[] = {
+    ZOHAPY_HEAD_WORD(1, 3), 0x20000000, ZOHAPY_TO_WORD(1, 400), ZOHAPY_TO_WORD(1, 200), 0x20000001,
+    ZOHAPY_TO_WORD(2, ZOHAPY_LONGEST_PAUSE + 1), 0xF0000003,
 };
 
 static const uint32_t loop[] = {0x10000002, 0x20000000, 0x30000001, 0x20000001, 0x30000000, 0xF0000002};
@@ -70,6 +78,25 @@ static void print_links(const uint32_t *log, size_t log_words) {
     }
 }
 
+/* Prints the lines of a log's report, which must have one. */
+static void print_report(const uint32_t *log, size_t log_words) {
+    zohapy_read_answer reading = zohapy_read(log, log_words);
+    zohapy_answer links = zohapy_links(log, log_words);
+    zohapy_answer report = zohapy_report(log, log_words, out, WORDS(out), work, WORDS(work));
+    if (reading.number != 0 || links.number != 0 || report.number != 0) {
+        fprintf(stderr, "a report was meant\n");
+        failed = 1;
+        return;
+    }
+    size_t width = number_of(out[0]);
+    printf("episodes %zu\nlinks %zu\nwidth %zu\n", reading.episodes, links.value, width);
+    print_numbers("apart", out + 1, width);
+    for (size_t i = 0; i < width; i++) {
+        zohapy_thread_answer thread = zohapy_thread(out, report.value, i);
+        print_numbers("thread", out + thread.start, thread.length);
+    }
+}
+
 /* Prints a refusal, and checks its number. */
 static void print_refusal(uint32_t meant, uint32_t number, size_t place) {
     printf("refused %" PRIu32 " at %zu\n", number, place);
@@ -80,20 +107,7 @@ static void print_refusal(uint32_t meant, uint32_t number, size_t place) {
 }
 
 int main(void) {
-    zohapy_read_answer reading = zohapy_read(whole, WORDS(whole));
-    zohapy_answer links = zohapy_links(whole, WORDS(whole));
-    zohapy_answer report = zohapy_report(whole, WORDS(whole), out, WORDS(out), work, WORDS(work));
-    if (reading.number != 0 || links.number != 0 || report.number != 0) {
-        fprintf(stderr, "a report was meant\n");
-        return 1;
-    }
-    size_t width = number_of(out[0]);
-    printf("episodes %zu\nlinks %zu\nwidth %zu\n", reading.episodes, links.value, width);
-    print_numbers("apart", out + 1, width);
-    for (size_t i = 0; i < width; i++) {
-        zohapy_thread_answer thread = zohapy_thread(out, report.value, i);
-        print_numbers("thread", out + thread.start, thread.length);
-    }
+    print_report(whole, WORDS(whole));
 
     uint32_t copied[ZOHAPY_COPY_WORDS(3)];
     zohapy_answer copy = zohapy_fair_copy(whole, WORDS(whole), copied, WORDS(copied), work, WORDS(work));
@@ -104,8 +118,8 @@ int main(void) {
     print_words("copy", copied, copy.value);
 
     /* A link that is given twice counts once. Of its pauses the fair copy has the least, and its to words rise by episode. */
-    reading = zohapy_read(paused, WORDS(paused));
-    links = zohapy_links(paused, WORDS(paused));
+    zohapy_read_answer reading = zohapy_read(paused, WORDS(paused));
+    zohapy_answer links = zohapy_links(paused, WORDS(paused));
     copy = zohapy_fair_copy(paused, WORDS(paused), copied, WORDS(copied), work, WORDS(work));
     if (reading.number != 0 || links.number != 0 || copy.number != 0) {
         fprintf(stderr, "a copy was meant\n");
@@ -117,6 +131,23 @@ int main(void) {
 
     /* The trimmed copy leaves out 0-2. */
     copy = zohapy_trimmed_copy(beside, WORDS(beside), copied, WORDS(copied), work, WORDS(work));
+    if (copy.number != 0) {
+        fprintf(stderr, "a trimmed copy was meant\n");
+        return 1;
+    }
+    print_words("trimmed", copied, copy.value);
+
+    /* The fair copy keeps the version and the link that does not count; the trimmed copy is of version 0 without it. */
+    printf("version %" PRIu32 " of %" PRIu32 " episodes\n", ZOHAPY_HEAD_VERSION(long_pauses[0]),
+           ZOHAPY_HEAD_EPISODES(long_pauses[0]));
+    print_report(long_pauses, WORDS(long_pauses));
+    copy = zohapy_fair_copy(long_pauses, WORDS(long_pauses), copied, WORDS(copied), work, WORDS(work));
+    if (copy.number != 0) {
+        fprintf(stderr, "a copy was meant\n");
+        return 1;
+    }
+    print_words("copy", copied, copy.value);
+    copy = zohapy_trimmed_copy(long_pauses, WORDS(long_pauses), copied, WORDS(copied), work, WORDS(work));
     if (copy.number != 0) {
         fprintf(stderr, "a trimmed copy was meant\n");
         return 1;

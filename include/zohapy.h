@@ -1,10 +1,13 @@
 /* The sleeper report: the six services of the proved library, for C. Link build/libzohapy.a.
  *
- * A log is an array of 32-bit words; a word's top 4 bits are its kind and its low 28 bits its number. The number of a to word,
- * of kind 3, is the later episode of a link in bits 0 to 15 and the pause between its two episodes, in minutes, in bits 16 to
- * 27; no other word has a pause. Every call ends with an answer or one numbered refusal, on any content and length. A pointer
- * must be aligned and not null, also where the length is 0, and no two arrays may share a word. Nothing is allocated, and
- * nothing is kept between calls. */
+ * A log is an array of 32-bit words; a word's top 4 bits are its kind and its low 28 bits its number. The number of the head,
+ * of kind 1, is the log's version, 0 or 1, in bits 24 to 27 and n, how many episodes there are, in bits 0 to 23. That of a to
+ * word, of kind 3, is the later episode of a link in bits 0 to 15 and the pause between its two episodes, in minutes, in bits
+ * 16 to 27; no other word has a pause. In version 0 every link counts, in version 1 one whose least pause, over all to words
+ * that give it, is at most 360 minutes. To words of links that do not count are read as others are.
+ *
+ * Every call ends with an answer or one numbered refusal, on any content and length. A pointer must be aligned and not null,
+ * also where the length is 0, and no two arrays may share a word. Nothing is allocated, and nothing is kept between calls. */
 #ifndef ZOHAPY_H
 #define ZOHAPY_H
 
@@ -16,7 +19,7 @@ extern "C" {
 #endif
 
 /* The version of the library. */
-#define ZOHAPY_VERSION "0.5.0"
+#define ZOHAPY_VERSION "0.6.0"
 
 /* The work words that a report or a copy needs. */
 #define ZOHAPY_WORK_WORDS 16384
@@ -25,20 +28,28 @@ extern "C" {
 #define ZOHAPY_REPORT_WORDS(n) (2 + 2 * (size_t)(n) + ((size_t)(n) + 1) * ((size_t)(n) + 1) / 4)
 #define ZOHAPY_COPY_WORDS(t) (2 + 2 * (size_t)(t))
 
+/* The longest pause, in minutes, with which a link counts in version 1. */
+#define ZOHAPY_LONGEST_PAUSE 360
+
+/* The version and the episodes of a head, and the head of a version below 16 and of episodes below 16,777,216. */
+#define ZOHAPY_HEAD_VERSION(word) (((uint32_t)(word) >> 24) & 0xFu)
+#define ZOHAPY_HEAD_EPISODES(word) ((uint32_t)(word) & 0xFFFFFFu)
+#define ZOHAPY_HEAD_WORD(version, episodes) (0x10000000u | ((uint32_t)(version) << 24) | (uint32_t)(episodes))
+
 /* The later episode and the pause of a to word, and the to word of an episode below 65,536 and a pause below 4,096. */
 #define ZOHAPY_EPISODE(word) ((uint32_t)(word) & 0xFFFFu)
 #define ZOHAPY_PAUSE(word) (((uint32_t)(word) >> 16) & 0xFFFu)
 #define ZOHAPY_TO_WORD(episode, pause) (0x30000000u | ((uint32_t)(pause) << 16) | (uint32_t)(episode))
 
 typedef struct {
-    uint32_t number; /* 0, or the refusal's number, 1 to 10 */
+    uint32_t number; /* 0, or the refusal's number, 1 to 10 or 18 */
     size_t place;    /* the refusal's place, in words from 0; else 0 */
     size_t episodes; /* n, where number is 0; else 0 */
-    size_t links;    /* the count of to words, a repeated link counted each time, where number is 0; else 0 */
+    size_t links;    /* the count of to words, repeats and links that do not count included, where number is 0; else 0 */
 } zohapy_read_answer;
 
 typedef struct {
-    uint32_t number; /* 0, or the refusal's number, 1 to 13 */
+    uint32_t number; /* 0, or the refusal's number, 1 to 13 or 18 */
     size_t value;    /* the count of words written, or the link count, where number is 0; else the refusal's place */
 } zohapy_answer;
 
@@ -48,30 +59,33 @@ typedef struct {
     size_t length;   /* how many steps it has, where number is 0; else 0 */
 } zohapy_thread_answer;
 
-/* Reads a log: questions 1 to 10. Of a to word question 7 looks at the episode alone. */
+/* Reads a log: questions 1 to 10, and after 2 question 18: whether the version is 0 or 1. Of the head question 3 looks at the
+ * episodes alone, and so does question 7 of a to word. */
 zohapy_read_answer zohapy_read(const uint32_t *log, size_t log_words);
 
-/* The link count of a log, as it is printed: how many different links it has, a link being an ordered pair of episodes. Repeats
- * and pauses do not matter. It asks questions 1 to 10, so a log with a loop has a link count too. */
+/* The link count of a log, as it is printed: how many different links that count it has, a link being an ordered pair of
+ * episodes. A link that is given again is counted once; pauses matter only for which links count. It asks the questions of the
+ * reading, so a log with a loop has a link count too. */
 zohapy_answer zohapy_links(const uint32_t *log, size_t log_words);
 
-/* The report on a log: a smallest path cover and the right-most maximum antichain, of the same size. Pauses change nothing of
- * it. Refusals 1 to 12 change no word. After 0 the output begins with the report, after 13 with a loop of the log: a word of
- * kind 8 with its length, which is also the place, and its episodes. The output is unchanged behind them, the first 16,384 work
- * words are zero, and the others unchanged. */
+/* The report on a log: a smallest path cover and the right-most maximum antichain, of the same size, of the links that count.
+ * Pauses matter only for which links count. Refusals 1 to 12 and 18 change no word. After 0 the output begins with the report, after 13
+ * with a loop of links that count: a word of kind 8 with its length, which is also the place, and its episodes. The output is
+ * unchanged behind them, the first 16,384 work words are zero, and the others unchanged. */
 zohapy_answer zohapy_report(const uint32_t *log, size_t log_words, uint32_t *out, size_t out_words, uint32_t *work,
                             size_t work_words);
 
-/* The fair copy of a log: each link once, with its least pause, its to words rising by episode. It is one form for all logs with
- * the same n, the same set of links and the same least pause of each. Refusals 1 to 12 change no word. After 0 the output begins
- * with the copy; the rest of both buffers is as after a report. */
+/* The fair copy of a log: its version, and each link once, whether it counts or not, with its least pause, its to words rising
+ * by episode. It is one form for all logs with the same version, the same n, the same set of links and the same least pause of
+ * each. Refusals 1 to 12 and 18 change no word. After 0 the output begins with the copy; the rest of both buffers is as after a
+ * report. */
 zohapy_answer zohapy_fair_copy(const uint32_t *log, size_t log_words, uint32_t *out, size_t out_words, uint32_t *work,
                                size_t work_words);
 
-/* The trimmed copy of a log without loops: in the layout of the fair copy and with pause 0, only those links A-B for which no
- * other path leads from A to B. It is one form for all such logs with the same n and the same ways. Refusals 1 to 12 change no
- * word. After 0 the output begins with the copy, after 13 with a loop as after a report; the rest of both buffers is as after a
- * report. */
+/* The trimmed copy of a log without loops: in the layout of the fair copy, of version 0 and with pause 0, only those links A-B
+ * that count and for which no other path of links that count leads from A to B. It is one form for all such logs, of either
+ * version, with the same n and the same ways. Refusals 1 to 12 and 18 change no word. After 0 the output begins with the copy,
+ * after 13 with a loop as after a report; the rest of both buffers is as after a report. */
 zohapy_answer zohapy_trimmed_copy(const uint32_t *log, size_t log_words, uint32_t *out, size_t out_words, uint32_t *work,
                                   size_t work_words);
 

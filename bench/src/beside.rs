@@ -5,7 +5,7 @@ use crate::builds::{self, Build, Function, SERVICES};
 use crate::shapes::{self, EPISODES, WORDS};
 use crate::times::{least, microseconds, middle};
 use std::hint::black_box;
-use zohapy::{WORK_WORDS, copy_words, report_words};
+use zohapy::{WORK_WORDS, copy_words, head_version, report_words};
 
 /// How many rounds each pair of builds has.
 const ROUNDS: usize = 301;
@@ -15,6 +15,18 @@ struct Call<'a> {
     service: usize,
     key: &'static str,
     log: &'a [u32],
+}
+
+/// The logs that both builds take: before version 0.6.0 every log of version 1 was refused.
+fn logs_for(pair: &[Build; 2]) -> Vec<(&'static str, Vec<u32>)> {
+    let mut logs = shapes::in_groups();
+    logs.retain(|(_, log)| head_version(log[0]) == 0 || pair.iter().all(|build| made(build[0], log).0[0] == 0));
+    logs
+}
+
+/// Prints the keys of these logs.
+pub fn print_keys(old: &str, new: &str) {
+    logs_for(&[builds::open(old), builds::open(new)]).iter().for_each(|(key, _)| println!("{key}"));
 }
 
 /// Each service that both builds have on each log.
@@ -75,7 +87,7 @@ fn print_row(&Call { service, key, .. }: &Call, times: &[[f64; 2]]) {
 /// Prints the table of times. The paths are those of an older and a newer build, in turn.
 pub fn print(paths: &[&str]) {
     let pairs: Vec<[Build; 2]> = paths.chunks(2).map(|pair| [builds::open(pair[0]), builds::open(pair[1])]).collect();
-    let logs = shapes::in_groups();
+    let logs = logs_for(&pairs[0]);
     let calls = calls(&pairs[0], &logs);
     for pair in &pairs {
         assert!(builds::are_two(pair), "the older build is the newer one");
@@ -102,7 +114,7 @@ pub fn call(library: &str, service: &str, key: &str) -> Option<()> {
 #[cfg(test)]
 mod tests {
     use super::*;
-    use crate::builds::Answer;
+    use crate::builds::{Answer, ReadAnswer};
 
     /// A service that writes to the last word of each buffer.
     unsafe extern "C" fn lending<const OUT: u32, const WORK: u32, const VALUE: usize>(
@@ -122,6 +134,25 @@ mod tests {
     fn stops<const OUT: u32, const WORK: u32, const VALUE: usize>() -> bool {
         let pair = [vec![Function::Lending(lending::<1, 2, 3>)], vec![Function::Lending(lending::<OUT, WORK, VALUE>)]];
         std::panic::catch_unwind(|| check(&pair, &Call { service: 0, key: "", log: &[] })).is_err()
+    }
+
+    /// A reading that refuses every version above `NEWEST`.
+    unsafe extern "C" fn reading<const NEWEST: u32>(log: *const u32, _: usize) -> ReadAnswer {
+        // SAFETY: the pointer is that of a slice with a word or more.
+        let refused = head_version(unsafe { *log }) > NEWEST;
+        ReadAnswer { number: if refused { 3 } else { 0 }, place: 0, episodes: 0, links: 0 }
+    }
+
+    #[test]
+    fn a_log_of_version_1_is_left_out_where_one_build_refuses_it() {
+        let [older, newer] = [Function::Reading(reading::<0>), Function::Reading(reading::<1>)];
+        let keys = |old, new| logs_for(&[vec![old], vec![new]]).into_iter().map(|log| log.0).collect::<Vec<_>>();
+        let all: Vec<_> = shapes::in_groups().into_iter().map(|log| log.0).collect();
+        assert_eq!(keys(newer, newer), all);
+        assert_eq!(all[all.len() - 2..], ["by-1-long", "dense-long"]);
+        for (old, new) in [(older, newer), (newer, older), (older, older)] {
+            assert_eq!(keys(old, new), all[..all.len() - 2]);
+        }
     }
 
     #[test]

@@ -4,10 +4,10 @@ use crate::object::Object;
 
 #[repr(C)]
 pub struct ReadAnswer {
-    number: u32,
-    place: usize,
-    episodes: usize,
-    links: usize,
+    pub number: u32,
+    pub place: usize,
+    pub episodes: usize,
+    pub links: usize,
 }
 
 #[repr(C)]

@@ -2,23 +2,23 @@
 //! copies and the link counts are equal, and so are the refusals; what is shown as a loop is one.
 
 use crate::services::{Answer, LINK_COUNT, REPORT, Service, TRIMMED_COPY, Written};
-use crate::shapes::{EPISODES, Numbers, log_of, random};
+use crate::shapes::{EPISODES, Numbers, half_long, log_of, random};
 use std::collections::HashSet;
-use zohapy::{Reading, WORK_WORDS, episode, kind, number, report_words};
+use zohapy::{LONGEST_PAUSE, Reading, WORK_WORDS, episode, head_episodes, head_version, kind, number, pause, report_words};
 
 /// What a log that passes has, by its head and its end: its episodes and its to words.
 pub fn figures(log: &[u32]) -> Reading {
-    Reading { episodes: number(log[0]) as usize, links: number(log[log.len() - 1]) as usize }
+    Reading { episodes: head_episodes(log[0]) as usize, links: number(log[log.len() - 1]) as usize }
 }
 
-/// The links of a log that passes.
+/// The links that count of a log that passes.
 fn links_of(log: &[u32]) -> HashSet<(u32, u32)> {
     let mut from = 0;
     let mut links = HashSet::new();
     for &word in &log[1..log.len() - 1] {
         if kind(word) == 2 {
             from = number(word);
-        } else {
+        } else if head_version(log[0]) == 0 || pause(word) <= LONGEST_PAUSE {
             links.insert((from, episode(word)));
         }
     }
@@ -150,9 +150,10 @@ fn assert_alike(service: &Service, log: &[u32], out_words: usize, work_words: us
 fn check_refused(service: &Service) {
     let mut numbers = Numbers::from_seed(8);
     for _ in 0..20_000 {
-        let mut words = vec![0x1000_0000 + numbers.below(5) as u32];
+        let version = [0, 0, 1, 1, 1, 2][numbers.below(6)] << 24;
+        let mut words = vec![0x1000_0000 + version + numbers.below(5) as u32];
         for _ in 0..numbers.below(4) {
-            let pause = (numbers.below(3) as u32) << 16;
+            let pause = [0, 1, LONGEST_PAUSE, LONGEST_PAUSE + 1][numbers.below(4)] << 16;
             words.extend([0x2000_0000 + numbers.below(4) as u32, 0x3000_0000 + pause + numbers.below(4) as u32]);
         }
         words.push(0xF000_0000 + words.len() as u32 / 2);
@@ -166,20 +167,27 @@ fn check_refused(service: &Service) {
     let out_words = report_words(EPISODES);
     assert_alike(service, &[], 0, 0);
     assert_alike(service, &[0x1000_0000], 0, 0);
-    assert_alike(service, &log_of(201, &[]), out_words, WORK_WORDS);
-    assert_alike(service, &log_of(2, &[(0, 1); 4097]), out_words, WORK_WORDS);
+    for head in [0x1200_00C9, 0x1F00_00C9, 0x1F00_0000, 0x2100_0000] {
+        assert_alike(service, &[head, 0xF000_0000], out_words, WORK_WORDS);
+    }
+    for log in [log_of(201, &[]), log_of(2, &[(0, 1); 4097])] {
+        assert_alike(service, &log, out_words, WORK_WORDS);
+        assert_alike(service, &half_long(8, &log), out_words, WORK_WORDS);
+    }
     assert_alike(service, &log_of(2, &[(0, 1); 4096]), out_words, WORK_WORDS - 1);
 }
 
-/// The services on small random logs, and on lists of words most of which are refused.
+/// The services on small random logs of both versions, and on lists of words most of which are refused.
 pub fn check_small() {
     let mut numbers = Numbers::from_seed(8);
     for seed in 0..2000 {
         let n = 2 + numbers.below(60);
         let log = log_of(n, &random(seed, n, n, numbers.below(200)));
-        check_report(&log);
-        check_trimmed(&log);
-        check_count(&log);
+        for log in [half_long(seed, &log), log] {
+            check_report(&log);
+            check_trimmed(&log);
+            check_count(&log);
+        }
     }
     [REPORT, TRIMMED_COPY, LINK_COUNT].iter().for_each(check_refused);
 }

@@ -7,6 +7,7 @@
 //!
 //! - `measurements beside OLD NEW [OLD NEW ..]` checks that both answer alike, and prints a table of times. Several pairs are the
 //!   same two builds at other places;
+//! - `measurements logs OLD NEW` prints the names of the logs that both builds take;
 //! - `measurements called LIBRARY SERVICE LOG` makes one call of such a build.
 
 mod beside;
@@ -57,6 +58,7 @@ fn run(words: &[&str]) -> Option<()> {
         ["times", rounds] => times::print(rounds.parse().ok()?),
         ["call", program, key] => call(program, &log_named(key)?)?,
         ["beside", _, _, ..] if words.len() % 2 == 1 => beside::print(&words[1..]),
+        ["logs", old, new] => beside::print_keys(old, new),
         ["called", library, service, key] => beside::call(library, service, key)?,
         _ => return None,
     }
@@ -69,7 +71,8 @@ fn main() {
     if run(&words).is_none() {
         eprintln!("measurements times [ROUNDS] | measurements call PROGRAM LOG");
         eprintln!("PROGRAM: read report fair-copy trimmed-copy links plain-report plain-trimmed-copy plain-links");
-        eprintln!("measurements beside OLD NEW [OLD NEW ..] | measurements called LIBRARY SERVICE LOG");
+        eprintln!("measurements beside OLD NEW [OLD NEW ..] | measurements logs OLD NEW");
+        eprintln!("measurements called LIBRARY SERVICE LOG");
         eprintln!("SERVICE: read report fair-copy trimmed-copy links");
         std::process::exit(2);
     }

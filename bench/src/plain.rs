@@ -2,7 +2,10 @@
 //! report. The library is measured beside it.
 
 use crate::shapes::{EPISODES, WORDS};
-use zohapy::{Reading, Refusal, WORK_WORDS, copy_words, episode, kind, number, report_words};
+use zohapy::{
+    LONGEST_PAUSE, Reading, Refusal, WORK_WORDS, copy_words, episode, head_episodes, head_version, kind, number, pause,
+    report_words,
+};
 
 /// A set of episodes.
 type Row = [u64; 4];
@@ -52,7 +55,8 @@ fn members(row: &Row) -> impl Iterator<Item = usize> {
     })
 }
 
-/// Questions 1 to 10. Gives the counts of episodes and of to words, and marks the links.
+/// Questions 1 to 10 and 18. Gives the counts of episodes and of to words, and marks the links that count: those with a to word
+/// whose pause is not too long.
 fn read(log: &[u32], links: &mut Matrix) -> Result<Reading, Refusal> {
     let refuse = |number, place| Err(Refusal { number, place });
     let &[head, ref groups @ .., end] = log else {
@@ -61,7 +65,12 @@ fn read(log: &[u32], links: &mut Matrix) -> Result<Reading, Refusal> {
     if kind(head) != 1 {
         return refuse(2, 0);
     }
-    let n = number(head) as usize;
+    let longest = match head_version(head) {
+        0 => u32::MAX,
+        1 => LONGEST_PAUSE,
+        _ => return refuse(18, 0),
+    };
+    let n = head_episodes(head) as usize;
     if n > EPISODES {
         return refuse(3, 0);
     }
@@ -91,7 +100,8 @@ fn read(log: &[u32], links: &mut Matrix) -> Result<Reading, Refusal> {
                 if count == WORDS {
                     return refuse(8, place);
                 }
-                insert(&mut links[from], later);
+                // Without a branch: where half of the pauses are too long, it could not be foreseen.
+                links[from][later / 64] |= u64::from(pause(word) <= longest) << (later % 64);
                 count += 1;
             }
             _ => return refuse(4, place),
@@ -316,7 +326,7 @@ fn write_loop(steps: &[usize], out: &mut [u32]) -> usize {
     steps.len()
 }
 
-/// Questions 1 to 13, where 11 asks for the words `needed`; then what `write` makes of the links and the ways. Leaves the buffers
+/// Questions 1 to 13 and 18, where 11 asks for the words `needed`; then what `write` makes of the links and the ways. Leaves the buffers
 /// as the library does.
 fn answer(
     log: &[u32],
@@ -360,7 +370,7 @@ pub fn trimmed_copy(log: &[u32], out: &mut [u32], work: &mut [u32]) -> Result<us
     answer(log, out, work, |log| copy_words(log.links), write_trimmed)
 }
 
-/// The link count, or a refusal 1 to 10.
+/// The link count, or a refusal 1 to 10 or 18.
 #[inline(never)]
 pub fn link_count(log: &[u32]) -> Result<usize, Refusal> {
     let mut links = [[0; 4]; EPISODES];

@@ -1,4 +1,6 @@
-//! The logs that are measured, the same in every run.
+//! The logs that are measured, the same in every run. They are of version 0 and have no pauses where nothing else is said.
+
+use zohapy::kind;
 
 pub type Links = Vec<(usize, usize)>;
 
@@ -49,6 +51,17 @@ fn log_in_groups(size: usize, links: &[(usize, usize)]) -> Vec<u32> {
     }
     log.push(0xF000_0000 + links.len() as u32);
     log
+}
+
+/// A log in version 1, with random pauses of 0 to 720 minutes: half of them are too long to count.
+pub fn half_long(seed: u64, log: &[u32]) -> Vec<u32> {
+    let mut numbers = Numbers::from_seed(seed);
+    let of_version_1 = |&word: &u32| match kind(word) {
+        1 => word | 1 << 24,
+        3 => word | (numbers.below(721) as u32) << 16,
+        _ => word,
+    };
+    log.iter().map(of_version_1).collect()
 }
 
 /// `count` random links from a lower number to one that is higher by at most `reach`. A link may come again.
@@ -129,10 +142,14 @@ fn first_links() -> Links {
     (0..EPISODES).flat_map(|a| (a + 1..EPISODES).map(move |b| (a, b))).take(WORDS).collect()
 }
 
+/// 4,096 random links, rising.
+fn dense() -> Links {
+    random(2, EPISODES, EPISODES, WORDS)
+}
+
 /// Keys, names and links, of which there are 4,096 or none: shorter lists are given again and again.
 fn linked() -> Vec<(&'static str, &'static str, Links)> {
     let chain: Links = (0..EPISODES - 1).map(|a| (a, a + 1)).collect();
-    let dense = || random(2, EPISODES, EPISODES, WORDS);
     let shapes = vec![
         ("none", "no links", vec![]),
         ("chain", "one chain, rising", chain.clone()),
@@ -153,16 +170,22 @@ fn linked() -> Vec<(&'static str, &'static str, Links)> {
     shapes.into_iter().map(|(key, name, links)| (key, name, again(links))).collect()
 }
 
-/// Logs of 200 episodes, with 4,096 to words where there are links at all.
+/// Logs of 200 episodes, with 4,096 to words where there are links at all. The last two are of version 1.
 pub fn all() -> Vec<Shape> {
     let shape = |(key, name, links): (_, _, Links)| Shape { key, name, log: log_of(EPISODES, &links) };
     let mut shapes: Vec<Shape> = linked().into_iter().map(shape).collect();
-    shapes.push(Shape { key: "night", name: "a night of nine sleepers", log: log_in_groups(WORDS, &night()) });
+    let night = log_in_groups(WORDS, &night());
+    let [dense_long, night_long] = [half_long(10, &log_of(EPISODES, &dense())), half_long(11, &night)];
+    shapes.extend([
+        Shape { key: "night", name: "a night of nine sleepers", log: night },
+        Shape { key: "dense-long", name: "4,096 random links, rising, version 1", log: dense_long },
+        Shape { key: "night-long", name: "a night of nine sleepers, version 1", log: night_long },
+    ]);
     shapes
 }
 
 /// Keys and logs with 4,096 to words, in groups of several lengths. The first three have the same links in the same order; the
-/// others have a group for each episode.
+/// others have a group for each episode. The last two are of version 1.
 pub fn in_groups() -> Vec<(&'static str, Vec<u32>)> {
     let links = sixteens(6);
     let mut logs = vec![
@@ -174,6 +197,8 @@ pub fn in_groups() -> Vec<(&'static str, Vec<u32>)> {
     let keys = ["chain", "dense", "dense-falling", "two-layers", "ten-layers", "wrong-choices"];
     let chosen = linked().into_iter().filter(|(key, ..)| keys.contains(key));
     logs.extend(chosen.map(|(key, _, links)| (key, log_in_groups(WORDS, &links))));
+    logs.push(("by-1-long", half_long(12, &log_in_groups(1, &links))));
+    logs.push(("dense-long", half_long(10, &log_in_groups(WORDS, &dense()))));
     logs
 }
 
@@ -199,6 +224,20 @@ mod tests {
         assert_eq!(taken_apart(&log("by-16")), (256, links.clone()));
         assert_eq!(taken_apart(&log("by-1")), (4096, links));
         assert_eq!(taken_apart(&log("first-links")), (22, first_links()));
+    }
+
+    #[test]
+    fn half_of_the_pauses_are_long() {
+        let plain = log("by-1");
+        let long = log("by-1-long");
+        assert_eq!(taken_apart(&long), taken_apart(&plain));
+        assert_eq!((zohapy::head_version(plain[0]), zohapy::head_version(long[0])), (0, 1));
+        let pauses: Vec<u32> = zohapy::links(&long).expect("the log passes").iter().map(|link| link.pause).collect();
+        let too_long = pauses.iter().filter(|pause| **pause > zohapy::LONGEST_PAUSE).count();
+        assert!(too_long.abs_diff(WORDS / 2) < WORDS / 20, "{too_long}");
+        assert!(pauses.contains(&0) && pauses.contains(&360) && pauses.contains(&361) && pauses.iter().max() == Some(&720));
+        let [counted, all] = [&long, &plain].map(|log| zohapy::link_count(log).expect("the log passes"));
+        assert!(0 < counted && counted < all);
     }
 
     #[test]

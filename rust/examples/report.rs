@@ -3,14 +3,15 @@
 
 use std::error::Error;
 
-use zohapy::{Failure, Link, Outcome, Refusal, Report, TrimOutcome, WORK_WORDS};
+use zohapy::{Failure, LONGEST_PAUSE, Link, Outcome, Refusal, Report, TrimOutcome, WORK_WORDS};
 
 const WHOLE: [u32; 6] = [0x1000_0005, 0x2000_0000, 0x3000_0001, 0x2000_0002, 0x3000_0003, 0xF000_0002];
 
 /// One log for each refusal of a reading but 8, which takes 4,097 to words.
-const REFUSED: [&[u32]; 9] = [
+const REFUSED: [&[u32]; 10] = [
     &[0x1000_0005],                                        // 1: fewer than two words
     &[0x2000_0005, 0xF000_0000],                           // 2: no head
+    &[zohapy::head_word(2, 5).unwrap(), 0xF000_0000],      // 18: version 2
     &[0x1000_00C9, 0xF000_0000],                           // 3: 201 episodes
     &[0x1000_0005, 0x7000_0000, 0xF000_0000],              // 4: neither a from word nor a to word
     &[0x1000_0005, 0x3000_0001, 0xF000_0001],              // 5: a to word before any from word
@@ -30,6 +31,18 @@ const PAUSED: [u32; 6] = [
     zohapy::to_word(2, 20).unwrap(),
     zohapy::to_word(1, 90).unwrap(),
     zohapy::to_word(1, 45).unwrap(),
+    0xF000_0003,
+];
+
+/// Version 1, 3 episodes and the links 0-1 with a pause of 400 minutes and again with one of 200, and 1-2 with one of 361. In
+/// version 1 that is too long: 1-2 does not count.
+const LONG_PAUSES: [u32; 7] = [
+    zohapy::head_word(1, 3).unwrap(),
+    0x2000_0000,
+    zohapy::to_word(1, 400).unwrap(),
+    zohapy::to_word(1, 200).unwrap(),
+    0x2000_0001,
+    zohapy::to_word(2, LONGEST_PAUSE + 1).unwrap(),
     0xF000_0003,
 ];
 
@@ -61,6 +74,15 @@ fn main() -> Result<(), Box<dyn Error>> {
     print_words("copy", &out[..count]);
     // The trimmed copy leaves out 0-2.
     match zohapy::trimmed_copy(&BESIDE, &mut out, &mut work) {
+        TrimOutcome::Trimmed(count) => print_words("trimmed", &out[..count]),
+        answered => panic!("the log has a trimmed copy, not {answered:?}"),
+    }
+    // The fair copy keeps the version and the link that does not count; the trimmed copy is of version 0 without it.
+    println!("version {} of {} episodes", zohapy::head_version(LONG_PAUSES[0]), zohapy::head_episodes(LONG_PAUSES[0]));
+    print!("{}", Report::of(&LONG_PAUSES)?);
+    let count = zohapy::fair_copy(&LONG_PAUSES, &mut out, &mut work)?;
+    print_words("copy", &out[..count]);
+    match zohapy::trimmed_copy(&LONG_PAUSES, &mut out, &mut work) {
         TrimOutcome::Trimmed(count) => print_words("trimmed", &out[..count]),
         answered => panic!("the log has a trimmed copy, not {answered:?}"),
     }

@@ -1,10 +1,14 @@
 //! The sleeper report for Rust programs: the six services of the proved library, on lent buffers.
 //!
-//! A log is a list of 32-bit words; a word's top 4 bits are its kind and its low 28 bits its number. The number of a to word
-//! holds an episode and a pause: [`links`] gives both for each link of a log. Each call ends, on any log and any buffers, with an
-//! answer or one numbered refusal, and what it leaves in every word of the buffers is fixed:
+//! A log is a list of 32-bit words; a word's top 4 bits are its kind and its low 28 bits its number. The number of the head holds
+//! the log's version and its count of episodes: [`head_version`] and [`head_episodes`]. That of a to word holds an episode and a
+//! pause: [`links`] gives both for each link of a log. In version 0 every link counts. In version 1 a link counts whose least
+//! pause is at most [`LONGEST_PAUSE`]; reports, loops, link counts and trimmed copies are of the links that count.
 //!
-//! - after a refusal 1 to 12 no buffer has changed;
+//! Each call ends, on any log and any buffers, with an answer or one numbered refusal, and what it leaves in every word of the
+//! buffers is fixed:
+//!
+//! - after a refusal 1 to 12 or 18 no buffer has changed;
 //! - otherwise the output begins with the report, the loop or the copy and is unchanged behind it, and the first [`WORK_WORDS`]
 //!   work words are zero, the others unchanged.
 //!
@@ -31,6 +35,9 @@ pub const LOG_BYTES: usize = 32_776;
 /// The version of the library.
 pub const VERSION: &str = env!("CARGO_PKG_VERSION");
 
+/// The longest pause, in minutes, with which a link counts in version 1.
+pub const LONGEST_PAUSE: u32 = 360;
+
 /// The work words that a report or a copy needs.
 pub const WORK_WORDS: usize = 16_384;
 
@@ -49,9 +56,47 @@ pub const fn kind(word: u32) -> u32 {
     word >> 28
 }
 
-/// The number of a word: its low 28 bits. That of a to word holds two figures, its [`episode`] and its [`pause`].
+/// The number of a word: its low 28 bits. That of a head holds two figures, its [`head_version`] and its [`head_episodes`]; that of
+/// a to word does too, its [`episode`] and its [`pause`].
 pub const fn number(word: u32) -> u32 {
     word & 0x0FFF_FFFF
+}
+
+/// The version of a head: its bits 24 to 27.
+pub const fn head_version(word: u32) -> u32 {
+    number(word) >> 24
+}
+
+/// How many episodes a head gives: its bits 0 to 23.
+pub const fn head_episodes(word: u32) -> u32 {
+    word & 0xFF_FFFF
+}
+
+/// The head of a version and a count of episodes; none where the version is not below 16 or the count not below 16,777,216.
+///
+/// ```
+/// use zohapy::{head_episodes, head_version, head_word};
+///
+/// const WORD: u32 = head_word(1, 5).unwrap();
+/// assert_eq!(WORD, 0x1100_0005);
+/// assert_eq!((head_version(WORD), head_episodes(WORD)), (1, 5));
+/// assert_eq!(head_word(16, 5), None);
+/// ```
+pub const fn head_word(version: u32, episodes: u32) -> Option<u32> {
+    if version < 1 << 4 && episodes < 1 << 24 { Some(0x1000_0000 | version << 24 | episodes) } else { None }
+}
+
+/// Whether a link counts in a log of this version, by its least pause over all to words that give it: in version 0 each does, in
+/// version 1 one with at most [`LONGEST_PAUSE`]. There is no other version.
+///
+/// ```
+/// use zohapy::counts;
+///
+/// assert!(counts(1, 360) && !counts(1, 361));
+/// assert!(counts(0, 361));
+/// ```
+pub const fn counts(version: u32, least_pause: u32) -> bool {
+    version == 0 || version == 1 && least_pause <= LONGEST_PAUSE
 }
 
 /// The episode of a to word: its bits 0 to 15.
@@ -112,7 +157,8 @@ impl std::error::Error for Refusal {}
 pub struct Reading {
     /// n; the episodes are 0 to n - 1.
     pub episodes: usize,
-    /// The count of to words, a repeated link counted each time; [`link_count`] counts different links.
+    /// The count of to words, those of repeats and of links that do not count too; [`link_count`] counts different links that
+    /// count.
     pub links: usize,
 }
 
@@ -123,7 +169,7 @@ pub enum Outcome {
     Report(usize),
     /// Refusal 13: the output begins with a loop of this many episodes, one word more.
     Loop(usize),
-    /// A refusal 1 to 12.
+    /// A refusal 1 to 12 or 18.
     Refused(Refusal),
 }
 
@@ -134,7 +180,7 @@ pub enum TrimOutcome {
     Trimmed(usize),
     /// Refusal 13: the output begins with a loop of this many episodes, one word more.
     Loop(usize),
-    /// A refusal 1 to 12.
+    /// A refusal 1 to 12 or 18.
     Refused(Refusal),
 }
 
@@ -195,7 +241,7 @@ mod library {
     }
 }
 
-/// Reads a log: questions 1 to 10.
+/// Reads a log: questions 1 to 10, and after 2 question 18: whether the version is 0 or 1.
 pub fn read(log: &[u32]) -> Result<Reading, Refusal> {
     // SAFETY: the pointer and the length are those of a slice, and the call reads only its words.
     let answer = unsafe { library::zohapy_read(log.as_ptr(), log.len()) };
@@ -205,13 +251,17 @@ pub fn read(log: &[u32]) -> Result<Reading, Refusal> {
     }
 }
 
-/// The link count of a log, as it is printed: how many different links it has, a link being an ordered pair of episodes. Repeats
-/// and pauses do not matter. It asks questions 1 to 10, so a log with a loop has a link count too.
+/// The link count of a log, as it is printed: how many different links that count it has, a link being an ordered pair of
+/// episodes. A link that is given again is counted once; pauses matter only for which links count. It asks the questions of
+/// [`read`], so a log with a loop has a link count too.
 ///
 /// ```
 /// let log = [0x1000_0002, 0x2000_0000, 0x3000_0001, 0x3000_0001, 0xF000_0002]; // 0-1 twice
 /// assert_eq!(zohapy::link_count(&log)?, 1);
 /// assert_eq!(zohapy::read(&log)?.links, 2); // its to words
+/// let log = [0x1100_0002, 0x2000_0000, 0x3169_0001, 0xF000_0001]; // version 1, 0-1 after 361 minutes
+/// assert_eq!(zohapy::link_count(&log)?, 0);
+/// assert_eq!(zohapy::read(&log)?.links, 1);
 /// # Ok::<(), zohapy::Refusal>(())
 /// ```
 pub fn link_count(log: &[u32]) -> Result<usize, Refusal> {
@@ -223,7 +273,8 @@ pub fn link_count(log: &[u32]) -> Result<usize, Refusal> {
     }
 }
 
-/// The links of a log in the order in which it gives them, one for each to word, repeats too; or its refusal by [`read`].
+/// The links of a log in the order in which it gives them, one for each to word, repeats and links that do not count too; or its
+/// refusal by [`read`]. By the least of its pauses [`counts`] says whether a link counts.
 ///
 /// ```
 /// use zohapy::{Link, links};
@@ -251,8 +302,8 @@ fn call(service: library::Lending, log: &[u32], out: &mut [u32], work: &mut [u32
     unsafe { service(log.as_ptr(), log.len(), out.as_mut_ptr(), out.len(), work.as_mut_ptr(), work.len()) }
 }
 
-/// The report on a log, or a loop of it; pauses change neither. For a report lend [`report_words`] output words and
-/// [`WORK_WORDS`] work words.
+/// The report on a log, or a loop of it, by the links that count; pauses matter only for which do. For a report lend
+/// [`report_words`] output words and [`WORK_WORDS`] work words.
 pub fn report(log: &[u32], out: &mut [u32], work: &mut [u32]) -> Outcome {
     let answer = call(library::zohapy_report, log, out, work);
     match answer.number {
@@ -262,8 +313,8 @@ pub fn report(log: &[u32], out: &mut [u32], work: &mut [u32]) -> Outcome {
     }
 }
 
-/// The fair copy of a log: each link once, with its least pause, its to words rising by episode. The answer is its count of words.
-/// Lend [`copy_words`] output words and [`WORK_WORDS`] work words.
+/// The fair copy of a log: its version, and each link once, whether it counts or not, with its least pause, its to words rising
+/// by episode. The answer is its count of words. Lend [`copy_words`] output words and [`WORK_WORDS`] work words.
 pub fn fair_copy(log: &[u32], out: &mut [u32], work: &mut [u32]) -> Result<usize, Refusal> {
     let answer = call(library::zohapy_fair_copy, log, out, work);
     match answer.number {
@@ -272,8 +323,8 @@ pub fn fair_copy(log: &[u32], out: &mut [u32], work: &mut [u32]) -> Result<usize
     }
 }
 
-/// The trimmed copy of a log, or a loop of it: only those links A-B for which no other path leads from A to B, with pause 0. Lend
-/// [`copy_words`] output words and [`WORK_WORDS`] work words.
+/// The trimmed copy of a log, or a loop of it: of the links that count only those A-B for which no other path leads from A to B,
+/// in version 0 and with pause 0. Lend [`copy_words`] output words and [`WORK_WORDS`] work words.
 pub fn trimmed_copy(log: &[u32], out: &mut [u32], work: &mut [u32]) -> TrimOutcome {
     let answer = call(library::zohapy_trimmed_copy, log, out, work);
     match answer.number {

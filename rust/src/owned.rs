@@ -9,7 +9,7 @@ use crate::{Outcome, Refusal, WORK_WORDS, link_count, number, read, report, repo
 pub struct Report {
     /// How many episodes the log has.
     pub episodes: usize,
-    /// How many different links the log has: its [`link_count`].
+    /// How many different links that count the log has: its [`link_count`].
     pub links: usize,
     /// The fewest sleepers: how many threads there are, and how many members the apart set has.
     pub width: usize,
@@ -22,7 +22,7 @@ pub struct Report {
 /// Why a log has no report. It is displayed as the lines that the program prints.
 #[derive(Clone, Debug, PartialEq, Eq)]
 pub enum Failure {
-    /// Refusal 13: a loop of the log, its smallest episode first.
+    /// Refusal 13: a loop of the log's links that count, its smallest episode first.
     Loop(Vec<u32>),
     /// Any other refusal.
     Refused(Refusal),

@@ -1,7 +1,10 @@
 //! The figures of a to word, the links of a log and how many there are, and what each service makes of pauses.
 
+mod common;
+
 use std::collections::{BTreeMap, BTreeSet};
 
+use common::random;
 use zohapy::{
     Failure, Link, Outcome, Reading, Refusal, Report, TrimOutcome, WORK_WORDS, copy_words, episode, fair_copy, kind, link_count,
     links, number, pause, read, report, report_words, to_word, trimmed_copy,
@@ -52,17 +55,6 @@ fn table_copied(n: u32, links: &[(u32, u32, u32)]) -> Vec<u32> {
     }
     words.push(0xF000_0000 | least.values().map(BTreeMap::len).sum::<usize>() as u32);
     words
-}
-
-/// Numbers below a ceiling, the same ones in each run.
-fn random() -> impl FnMut(u32) -> u32 {
-    let mut state: u64 = 0x9E37_79B9_7F4A_7C15;
-    move |ceiling| {
-        state ^= state << 13;
-        state ^= state >> 7;
-        state ^= state << 17;
-        ((state >> 32) % u64::from(ceiling)) as u32
-    }
 }
 
 #[test]
@@ -210,7 +202,7 @@ fn no_other_word_has_a_pause() {
 }
 
 #[test]
-fn pauses_change_no_report_and_no_loop() {
+fn in_version_0_pauses_change_no_report_and_no_loop() {
     let words = |log: &[u32]| {
         let mut out = vec![OLD; report_words(200)];
         let outcome = report(log, &mut out, &mut vec![OLD; WORK_WORDS]);

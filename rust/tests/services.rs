@@ -128,10 +128,11 @@ fn loops_are_shown_from_their_smallest_episode() {
 
 #[test]
 fn each_question_of_the_reading_has_its_refusal() {
-    let rows: [(&[u32], u32, usize); 14] = [
+    let rows: [(&[u32], u32, usize); 15] = [
         (&[], 1, 0),
         (&[0x1000_0005], 1, 0),
         (&[0x2000_0005, 0xF000_0000], 2, 0),
+        (&[0x1200_0005, 0xF000_0000], 18, 0),
         (&[0x1000_00C9, 0xF000_0000], 3, 0),
         (&[0x1000_0005, 0x7000_0000, 0xF000_0000], 4, 1),
         (&[0x1000_0005, 0x3000_0001, 0xF000_0001], 5, 1),

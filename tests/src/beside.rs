@@ -5,6 +5,7 @@ use crate::lent::{Lent, WATCHED};
 use crate::object::Object;
 use crate::services::header::{self, Counting, Lending, Reading, Threading};
 use crate::services::{Answer, Compared, Door, ReadAnswer, Services, ThreadAnswer, lending};
+use crate::words::{END, HEAD, head_word, kind, version, word};
 use std::collections::HashSet;
 use std::fmt::Debug;
 use std::hash::{DefaultHasher, Hash, Hasher};
@@ -19,6 +20,15 @@ pub struct Older {
     fair_copy: Lending,
     trimmed_copy: Lending,
     thread: Threading,
+    /// Whether heads have a version there.
+    versions: bool,
+}
+
+/// Whether a build reads the version in a head: it refuses version 2 by question 18.
+fn has_versions(read: Reading) -> bool {
+    let log = [head_word(2, 0), word(END, 0)];
+    // SAFETY: the pointer and the length are those of an array.
+    unsafe { read(log.as_ptr(), log.len()) }.number == 18
 }
 
 impl Older {
@@ -27,13 +37,15 @@ impl Older {
         let object = Object::open(path)?;
         // SAFETY: these are the types that the header gives the six functions.
         unsafe {
+            let read = object.function(c"zohapy_read")?;
             Ok(Older {
-                read: object.function(c"zohapy_read")?,
+                read,
                 links: object.function(c"zohapy_links").ok(),
                 report: object.function(c"zohapy_report")?,
                 fair_copy: object.function(c"zohapy_fair_copy")?,
                 trimmed_copy: object.function(c"zohapy_trimmed_copy")?,
                 thread: object.function(c"zohapy_thread")?,
+                versions: has_versions(read),
             })
         }
     }
@@ -47,12 +59,24 @@ impl Older {
             fair_copy: header::zohapy_fair_copy,
             trimmed_copy: header::zohapy_trimmed_copy,
             thread: header::zohapy_thread,
+            versions: has_versions(header::zohapy_read),
         }
     }
 
     /// Whether the build has the link count. Where it has none, these calls are not compared.
     pub fn counts_links(&self) -> bool {
         self.links.is_some()
+    }
+
+    /// Whether the build has versions. Where it has none, calls on logs of another version than 0 are not compared.
+    pub fn has_versions(&self) -> bool {
+        self.versions
+    }
+
+    /// Whether the log means the same to the build: it has versions too, or questions 1 and 2 refuse the log, or it is of
+    /// version 0.
+    fn reads_as_now(&self, log: &[u32]) -> bool {
+        self.versions || log.len() < 2 || kind(log[0]) != HEAD || version(log[0]) == 0
     }
 }
 
@@ -99,6 +123,10 @@ impl<S: Services> Beside<S> {
         out: &mut Lent,
         work: &mut Lent,
     ) -> Answer {
+        if !self.older.reads_as_now(log.lent()) {
+            self.compared = Compared::Not;
+            return newer(&mut self.newer, door, log, out, work);
+        }
         self.log.keep(log);
         self.out.keep(out);
         self.work.keep(work);
@@ -112,6 +140,10 @@ impl<S: Services> Beside<S> {
 
 impl<S: Services> Services for Beside<S> {
     fn read(&mut self, door: Door, log: &mut Lent) -> ReadAnswer {
+        if !self.older.reads_as_now(log.lent()) {
+            self.compared = Compared::Not;
+            return self.newer.read(door, log);
+        }
         self.log.keep(log);
         let new = self.newer.read(door, log);
         let kept = self.log.lent();
@@ -122,9 +154,10 @@ impl<S: Services> Services for Beside<S> {
     }
 
     fn links(&mut self, door: Door, log: &mut Lent) -> Answer {
+        let links = self.older.links.filter(|_| self.older.reads_as_now(log.lent()));
         self.log.keep(log);
         let new = self.newer.links(door, log);
-        self.compared = match self.older.links {
+        self.compared = match links {
             Some(links) => {
                 let kept = self.log.lent();
                 // SAFETY: the pointer and the length are those of a slice.
@@ -327,6 +360,31 @@ mod tests {
             assert_eq!(matches!(beside.compared(), Compared::Same), compared);
             beside.read(Door::C, &mut lent);
             assert!(matches!(beside.compared(), Compared::Same));
+        }
+    }
+
+    #[test]
+    fn a_build_without_versions_is_taken() {
+        let without = Older { versions: false, ..Older::linked() };
+        let logs = [(0x1000_0000, true), (0x1100_0000, false), (0x1200_0000, false), (0x2200_0000, true)];
+        for (head, compared) in logs {
+            for (older, compared) in [(Older::linked(), true), (without, compared)] {
+                let (mut beside, mut log, filling) = (Beside::new(Library, older), Lent::new(), Filling::new());
+                let random = &mut Random::new(1);
+                let (mut out, mut work) = (Lent::new(), Lent::new());
+                log.set(&[head, 0xF000_0000], &filling, random);
+                out.fill(2, &filling, random);
+                work.fill(16_384, &filling, random);
+                let went = |beside: &mut Beside<Library>| matches!(beside.compared(), Compared::Same);
+                beside.read(Door::C, &mut log);
+                assert_eq!(went(&mut beside), compared);
+                beside.links(Door::C, &mut log);
+                assert_eq!(went(&mut beside), compared);
+                beside.fair_copy(Door::C, &mut log, &mut out, &mut work);
+                assert_eq!(went(&mut beside), compared);
+                beside.thread(Door::C, &mut log, 0);
+                assert!(went(&mut beside));
+            }
         }
     }
 

@@ -8,7 +8,6 @@ use crate::lent::{Filling, LONGEST, Lent};
 use crate::random::Random;
 use crate::reference::{Graph, Parts, Passed, Refusal, Subject, WORK, copy_need, lent, report_need};
 use crate::services::{Answer, Compared, Door, ReadAnswer, Services, ThreadAnswer};
-use crate::words::{TO, kind, pause};
 
 pub struct Caller<S> {
     services: S,
@@ -109,16 +108,23 @@ impl<S: Services> Caller<S> {
 
     fn count(&mut self, service: Service, number: u32, subject: &Subject) {
         self.counts.call(service, number);
+        if self.bare {
+            return;
+        }
+        self.counts.first(&subject.words);
         if let Some(shape) = self.shape {
-            self.counts.shape(shape, subject.words.iter().any(|&given| kind(given) == TO && pause(given) > 0));
+            self.counts.shape(shape, &subject.words);
         }
         match subject.reading {
             Ok((n, _)) => self.counts.size(n),
             Err(Refusal { number: 7, place }) => self.counts.seventh(&subject.words, place),
             Err(_) => {}
         }
-        for &pauses in subject.passed.iter().flat_map(Passed::pauses) {
-            self.counts.pauses(pauses);
+        if let Some(passed) = &subject.passed {
+            for &pauses in passed.pauses() {
+                self.counts.pauses(pauses);
+            }
+            self.counts.long_pauses(passed.long_pauses(&subject.words));
         }
     }
 
@@ -147,7 +153,7 @@ impl<S: Services> Caller<S> {
         }
     }
 
-    /// After a refusal 1 to 12: no buffer has changed.
+    /// After a refusal 1 to 12 or 18: no buffer has changed.
     fn ask_refused(&self, answer: Answer, refusal: Refusal, found: &mut Found) {
         ask_refusal(answer.number, answer.value, refusal, found);
         found.ask(Check::OutKept, self.out.lent() == self.out.before(), || first_changed("output", &self.out, 0));
@@ -408,7 +414,7 @@ impl<S: Services> Caller<S> {
     }
 }
 
-/// Questions 1 to 12, for a call that needs so many output words for n episodes and t to words.
+/// Questions 1 to 12 and 18, for a call that needs so many output words for n episodes and t to words.
 fn passed(subject: &Subject, need: fn(usize, usize) -> usize, lengths: Lengths) -> Result<&Passed, Refusal> {
     let (n, t) = subject.reading?;
     lent(need(n, t), lengths.out, lengths.work)?;

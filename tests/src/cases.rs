@@ -7,7 +7,7 @@ use crate::random::Random;
 use crate::reference::{Subject, WORK, parts};
 use crate::services::{ReadAnswer, Services};
 use crate::shapes;
-use crate::words::{HEAD, LOOP, Noted, STEP, TO, hex, log, older, word};
+use crate::words::{LOOP, Noted, STEP, TO, hex, in_version, log, older, word};
 
 /// Words as they are written: hexadecimal, spaces between them.
 fn words(text: &str) -> Vec<u32> {
@@ -32,9 +32,25 @@ const TWO_PAUSES: &str = "10000002 20000000 30020001 30010001 F0000002";
 const BESIDE_PAUSED: &str = "10000003 20000000 30050001 20000001 3FFF0002 20000000 30010002 F0000003";
 /// 0-1 with 4,095 minutes, 1-0 with 7.
 const AROUND_PAUSED: &str = "10000002 20000000 3FFF0001 20000001 30070000 F0000002";
+/// Of version 1: 0-1 with 360 minutes, and with 361.
+const COUNTS_360: &str = "11000002 20000000 31680001 F0000001";
+const LONG_361: &str = "11000002 20000000 31690001 F0000001";
+/// Of version 1: 0-1 with 400 minutes and with 200, in either order.
+const LONG_THEN_SHORT: &str = "11000002 20000000 31900001 30C80001 F0000002";
+const SHORT_THEN_LONG: &str = "11000002 20000000 30C80001 31900001 F0000002";
+/// Of version 1: 0-1 with 400 minutes, and with 361 in another group.
+const LONG_TWICE: &str = "11000002 20000000 31900001 20000000 31690001 F0000002";
+/// Of version 1: 0-1, 1-2, and 2-0 with 361 minutes.
+const LONG_CLOSES: &str = "11000003 20000000 30000001 20000001 30000002 20000002 31690000 F0000003";
+/// Of version 1: 0-1, 1-2 with 361 minutes, and 0-2.
+const LONG_BESIDE: &str = "11000003 20000000 30000001 20000001 31690002 20000000 30000002 F0000003";
+
+/// The reports on 0-1, and on two episodes without a link.
+const JOINED: &str = "40000001 50000001 60000002 70000000 70000001 F0000005";
+const PARTED: &str = "40000002 50000000 50000001 60000001 70000000 60000001 70000001 F0000007";
 
 /// Logs with their reports. Where the cover is free, all that there can be are listed.
-const REPORTS: [(&str, &[&str]); 12] = [
+const REPORTS: [(&str, &[&str]); 29] = [
     (EMPTY, &["40000000 F0000001"]),
     ("10000001 F0000000", &["40000001 50000000 60000001 70000000 F0000004"]),
     (WHOLE, &[WHOLE_REPORT]),
@@ -75,10 +91,43 @@ const REPORTS: [(&str, &[&str]); 12] = [
     ("10000005 20000000 3FFF0001 20000002 30010003 F0000002", &[WHOLE_REPORT]),
     (BESIDE_PAUSED, &["40000001 50000002 60000003 70000000 70000001 70000002 F0000006"]),
     (TWO_PAUSES, &["40000001 50000001 60000002 70000000 70000001 F0000005"]),
+    // Version 1: 360 minutes join, 361 do not; in version 0 both do.
+    (COUNTS_360, &[JOINED]),
+    (LONG_361, &[PARTED]),
+    ("10000002 20000000 31680001 F0000001", &[JOINED]),
+    ("10000002 20000000 31690001 F0000001", &[JOINED]),
+    // The least pause decides.
+    (LONG_THEN_SHORT, &[JOINED]),
+    (SHORT_THEN_LONG, &[JOINED]),
+    (LONG_TWICE, &[PARTED]),
+    ("10000002 20000000 31900001 20000000 31690001 F0000002", &[JOINED]),
+    // Only a link that does not count closes the loop: 0-1-2-0, 0-1-0, 0-0.
+    (LONG_CLOSES, &["40000001 50000002 60000003 70000000 70000001 70000002 F0000006"]),
+    ("11000002 20000000 3FFF0001 20000001 30070000 F0000002", &["40000001 50000000 60000002 70000001 70000000 F0000005"]),
+    ("11000002 20000000 31680001 20000001 31690000 F0000002", &[JOINED]),
+    ("11000001 20000000 31690000 F0000001", &["40000001 50000000 60000001 70000000 F0000004"]),
+    // 0-1 and 0-2 count, 1-2 does not.
+    (
+        LONG_BESIDE,
+        &[
+            "40000002 50000001 50000002 60000002 70000000 70000001 60000001 70000002 F0000008",
+            "40000002 50000001 50000002 60000001 70000001 60000002 70000000 70000002 F0000008",
+            "40000002 50000001 50000002 60000002 70000000 70000001 60000002 70000000 70000002 F0000009",
+        ],
+    ),
+    // The whole example in version 1: without a pause, and with 400 minutes on 2-3.
+    ("11000005 20000000 30000001 20000002 30000003 F0000002", &[WHOLE_REPORT]),
+    (
+        "11000005 20000000 30000001 20000002 31900003 F0000002",
+        &["40000004 50000001 50000002 50000003 50000004 60000002 70000000 70000001 60000001 70000002 60000001 70000003 \
+           60000001 70000004 F000000E"],
+    ),
+    ("11000000 F0000000", &["40000000 F0000001"]),
+    ("11000001 F0000000", &["40000001 50000000 60000001 70000000 F0000004"]),
 ];
 
 /// Logs with the loops that they can show.
-const LOOPS: [(&str, &[&str]); 6] = [
+const LOOPS: [(&str, &[&str]); 13] = [
     (AROUND, &["80000002 70000000 70000001"]),
     (ITSELF, &["80000001 70000000"]),
     (AROUND_PAUSED, &["80000002 70000000 70000001"]),
@@ -88,16 +137,56 @@ const LOOPS: [(&str, &[&str]); 6] = [
         "10000003 20000002 30000002 20000001 30000000 20000000 30000001 F0000003",
         &["80000001 70000002", "80000002 70000000 70000001"],
     ),
+    // Version 0 keeps every link.
+    ("10000003 20000000 30000001 20000001 30000002 20000002 31690000 F0000003", &["80000003 70000000 70000001 70000002"]),
+    ("10000002 20000000 31680001 20000001 31690000 F0000002", &["80000002 70000000 70000001"]),
+    ("10000001 20000000 31690000 F0000001", &["80000001 70000000"]),
+    // Links that count close loops in version 1 too.
+    ("11000002 20000000 31680001 20000001 31680000 F0000002", &["80000002 70000000 70000001"]),
+    ("11000001 20000000 31680000 F0000001", &["80000001 70000000"]),
+    ("11000001 20000000 31900000 30C80000 F0000002", &["80000001 70000000"]),
+    // 2-2 does not count, 0-1 and 1-0 do.
+    ("11000003 20000002 31690002 20000001 30000000 20000000 30000001 F0000003", &["80000002 70000000 70000001"]),
 ];
 
-/// Logs that are refused, with number and place. The last ones earn more than one refusal.
-const REFUSALS: [(&str, u32, usize); 43] = [
+/// Logs that are refused, with number and place. Some of them earn more than one refusal.
+const REFUSALS: [(&str, u32, usize); 70] = [
     ("", 1, 0),
     ("10000005", 1, 0),
     ("F0000000 F0000000", 2, 0),
     ("20000000 F0000000", 2, 0),
     ("100000C9 F0000000", 3, 0),
-    ("1FFFFFFF F0000000", 3, 0),
+    ("10FFFFFF F0000000", 3, 0),
+    // Versions 0 and 1 go on to question 3, the others do not.
+    ("110000C9 F0000000", 3, 0),
+    ("11FFFFFF F0000000", 3, 0),
+    ("11010003 F0000000", 3, 0),
+    ("12000000 F0000000", 18, 0),
+    ("13000000 F0000000", 18, 0),
+    ("14000000 F0000000", 18, 0),
+    ("18000000 F0000000", 18, 0),
+    ("1F000000 F0000000", 18, 0),
+    ("120000C9 F0000000", 18, 0),
+    ("1F0000C9 F0000000", 18, 0),
+    ("1FFFFFFF F0000000", 18, 0),
+    ("12000003", 1, 0),
+    ("22000000 F0000000", 2, 0),
+    ("2F0000C9 F0000000", 2, 0),
+    ("02000000 F0000000", 2, 0),
+    ("12000003 30000001 F0000001", 18, 0),
+    ("14000003 20000000 30000009 E0000000", 18, 0),
+    ("1F000003 20000000 30000001 F0000002", 18, 0),
+    // The words of links that do not count are asked too.
+    ("11000003 31900001 F0000001", 5, 1),
+    ("11000003 20000000 31900001 40000000 F0000001", 4, 3),
+    ("11000003 20000000 31900001 20000001 F0000001", 6, 3),
+    ("11000003 20000000 31900003 F0000001", 7, 2),
+    ("11000003 20000000 31900001 E0000001", 9, 3),
+    ("11000003 20000000 30010001 31900002 F0000001", 10, 4),
+    ("11000003 20000000 31900001 F0000000", 10, 3),
+    // No other word has a version.
+    ("11000003 21000000 30000001 F0000001", 7, 1),
+    ("11000003 F1000000", 10, 1),
     ("10000003 20000000 30000001 40000000 F0000001", 4, 3),
     ("10000003 10000003 F0000000", 4, 1),
     ("10000003 30000001 F0000001", 5, 1),
@@ -140,7 +229,7 @@ const REFUSALS: [(&str, u32, usize); 43] = [
 ];
 
 /// Logs with their counts of to words and their link counts.
-const COUNTS: [(&str, usize, usize); 27] = [
+const COUNTS: [(&str, usize, usize); 39] = [
     (EMPTY, 0, 0),
     ("10000001 F0000000", 0, 0),
     (ALONE, 0, 0),
@@ -181,6 +270,20 @@ const COUNTS: [(&str, usize, usize); 27] = [
     ("100000C8 20000000 300000C0 300000C7 20000001 30000000 30000007 F0000004", 4, 4),
     // 0-1 three times, and 2-2; no link joins 3.
     ("10000004 20000000 30000001 30000001 20000002 30000002 20000000 30000001 F0000004", 4, 2),
+    // Version 1: only links that count do; the to words are read all the same.
+    ("110000C8 F0000000", 0, 0),
+    (COUNTS_360, 1, 1),
+    (LONG_361, 1, 0),
+    (LONG_THEN_SHORT, 2, 1),
+    (SHORT_THEN_LONG, 2, 1),
+    (LONG_TWICE, 2, 0),
+    (LONG_CLOSES, 3, 2),
+    (LONG_BESIDE, 3, 2),
+    ("11000002 20000000 3FFF0001 20000001 30070000 F0000002", 2, 1),
+    ("11000001 20000000 31690000 F0000001", 1, 0),
+    // In version 0 all do.
+    ("10000002 20000000 31690001 F0000001", 1, 1),
+    ("10000002 20000000 31900001 20000000 31690001 F0000002", 2, 1),
 ];
 
 /// Logs that are refused, with number and place: no count is given, though links stand before the word that is refused, or
@@ -207,7 +310,7 @@ const UNCOUNTED: [(&str, u32, usize); 17] = [
 ];
 
 /// Logs with their fair copies. The first ones are older logs, with older copies.
-const COPIES: [(&str, &str); 21] = [
+const COPIES: [(&str, &str); 33] = [
     (EMPTY, EMPTY),
     (ALONE, ALONE),
     (WHOLE, WHOLE),
@@ -247,10 +350,26 @@ const COPIES: [(&str, &str); 21] = [
     ),
     ("10000001 20000000 30050000 20000000 30020000 F0000002", "10000001 20000000 30020000 F0000001"),
     (AROUND_PAUSED, AROUND_PAUSED),
+    // Version 1 is kept, and so are links that do not count.
+    ("11000000 F0000000", "11000000 F0000000"),
+    ("110000C8 F0000000", "110000C8 F0000000"),
+    (COUNTS_360, COUNTS_360),
+    (LONG_361, LONG_361),
+    ("10000002 20000000 31690001 F0000001", "10000002 20000000 31690001 F0000001"),
+    (LONG_THEN_SHORT, "11000002 20000000 30C80001 F0000001"),
+    (SHORT_THEN_LONG, "11000002 20000000 30C80001 F0000001"),
+    ("10000002 20000000 31900001 30C80001 F0000002", "10000002 20000000 30C80001 F0000001"),
+    (LONG_TWICE, LONG_361),
+    (LONG_CLOSES, LONG_CLOSES),
+    (LONG_BESIDE, "11000003 20000000 30000001 30000002 20000001 31690002 F0000003"),
+    (
+        "11000003 20000001 3FFF0002 20000000 31900002 30050001 F0000003",
+        "11000003 20000000 30050001 31900002 20000001 3FFF0002 F0000003",
+    ),
 ];
 
 /// Logs with their trimmed copies.
-const TRIMMED: [(&str, &str); 19] = [
+const TRIMMED: [(&str, &str); 32] = [
     (EMPTY, EMPTY),
     (ALONE, ALONE),
     (WHOLE, WHOLE),
@@ -293,6 +412,24 @@ const TRIMMED: [(&str, &str); 19] = [
     ("10000002 20000000 3FFF0001 F0000001", "10000002 20000000 30000001 F0000001"),
     ("10000004 20000000 30010003 30020002 30030001 F0000003", "10000004 20000000 30000001 30000002 30000003 F0000003"),
     ("10000004 20000002 30030003 20000001 30020003 20000000 30090003 30080002 30010001 30000003 F0000006", DIAMOND),
+    // Of a log of version 1 it is of version 0, without links that do not count.
+    ("11000000 F0000000", EMPTY),
+    ("110000C8 F0000000", ALONE),
+    ("11000005 20000000 30000001 20000002 30000003 F0000002", WHOLE),
+    (COUNTS_360, "10000002 20000000 30000001 F0000001"),
+    (LONG_361, "10000002 F0000000"),
+    (LONG_THEN_SHORT, "10000002 20000000 30000001 F0000001"),
+    (SHORT_THEN_LONG, "10000002 20000000 30000001 F0000001"),
+    (LONG_TWICE, "10000002 F0000000"),
+    ("10000002 20000000 31900001 20000000 31690001 F0000002", "10000002 20000000 30000001 F0000001"),
+    (LONG_CLOSES, "10000003 20000000 30000001 20000001 30000002 F0000002"),
+    // Links that do not count imply none: 0-2 stays. In version 0 it does not.
+    (LONG_BESIDE, "10000003 20000000 30000001 30000002 F0000002"),
+    (
+        "10000003 20000000 30000001 20000001 31690002 20000000 30000002 F0000003",
+        "10000003 20000000 30000001 20000001 30000002 F0000002",
+    ),
+    ("11000003 20000000 31690002 30000001 20000001 30000002 F0000003", "10000003 20000000 30000001 20000001 30000002 F0000002"),
 ];
 
 /// Logs that need so many words for their trimmed copy, lent exactly these, and the loops that they show.
@@ -388,14 +525,19 @@ fn counted_as<S: Services>(caller: &mut Caller<S>, subject: &Subject, due: Count
     Ok(())
 }
 
+/// The low 24 bits of the head.
+fn head_number(subject: &Subject) -> usize {
+    (subject.words[0] & 0x00FF_FFFF) as usize
+}
+
 /// All cases.
 pub fn all<S: Services>(caller: &mut Caller<S>) -> Checked<()> {
     let random = &mut Random::new(7);
     caller.shape = None;
     for (log, reports) in REPORTS {
         let subject = Subject::new(words(log));
-        let (n, t) = ((subject.words[0] - word(HEAD, 0)) as usize, subject.words.iter().filter(|&&w| w >> 28 == TO).count());
-        read_as(caller, &subject, n, t, random)?;
+        let t = subject.words.iter().filter(|&&w| w >> 28 == TO).count();
+        read_as(caller, &subject, head_number(&subject), t, random)?;
         match caller.report(&subject, PLENTY, random)? {
             Gave::Report(_, said) if reports.iter().any(|report| words(report) == said) => {}
             Gave::Report(_, said) => return differ("report", &subject.words, format!("the report is {}", hex(&said))),
@@ -420,7 +562,7 @@ pub fn all<S: Services>(caller: &mut Caller<S>) -> Checked<()> {
     }
     for (log, t, count) in COUNTS {
         let subject = Subject::new(words(log));
-        read_as(caller, &subject, (subject.words[0] - word(HEAD, 0)) as usize, t, random)?;
+        read_as(caller, &subject, head_number(&subject), t, random)?;
         counted_as(caller, &subject, Ok(count), random)?;
     }
     for (log, number, place) in REFUSALS.into_iter().chain(UNCOUNTED) {
@@ -444,6 +586,7 @@ pub fn all<S: Services>(caller: &mut Caller<S>) -> Checked<()> {
         }
     }
     three_pauses(caller, random)?;
+    two_versions(caller, random)?;
     short_buffers(caller, random)?;
     at_the_ceilings(caller, random)?;
     at_most_three(caller, random)
@@ -465,6 +608,39 @@ fn three_pauses<S: Services>(caller: &mut Caller<S>, random: &mut Random) -> Che
     Ok(())
 }
 
+/// 0-1 given twice, with every two of these pauses, in both versions: the copy has the lesser, and in version 1 it decides
+/// whether the link counts.
+fn two_versions<S: Services>(caller: &mut Caller<S>, random: &mut Random) -> Checked<()> {
+    let pauses = [
+        (0, 0x3000_0001, true),
+        (359, 0x3167_0001, true),
+        (360, 0x3168_0001, true),
+        (361, 0x3169_0001, false),
+        (400, 0x3190_0001, false),
+        (4_095, 0x3FFF_0001, false),
+    ];
+    for i in 0..72 {
+        let (version, two) = (i % 2, [i / 12, i / 2 % 6]);
+        let (_, word, short) = pauses[two[0].min(two[1])];
+        let subject = Subject::new(in_version(version, log(2, &two.map(|i| (0, 1, pauses[i].0)), 4, random)));
+        let head = [0x1000_0002, 0x1100_0002][version];
+        let said = caller.fair_copy(&subject, PLENTY, random)?;
+        if said != Ok(vec![head, 0x2000_0000, word, 0xF000_0001]) {
+            return differ("fair_copy", &subject.words, format!("{said:X?} instead of {head:X} with {word:X}"));
+        }
+        let joined = version == 0 || short;
+        counted_as(caller, &subject, Ok(usize::from(joined)), random)?;
+        let due = if joined { JOINED } else { PARTED };
+        match caller.report(&subject, PLENTY, random)? {
+            Gave::Report(_, said) if said == words(due) => {}
+            _ => return differ("report", &subject.words, format!("the report is {due}")),
+        }
+        let due = if joined { "10000002 20000000 30000001 F0000001" } else { "10000002 F0000000" };
+        trimmed_as(caller, &subject, PLENTY, &Trimmed::Copy(words(due)), random)?;
+    }
+    Ok(())
+}
+
 /// Questions 11 and 12.
 fn short_buffers<S: Services>(caller: &mut Caller<S>, random: &mut Random) -> Checked<()> {
     let reports = [
@@ -475,6 +651,8 @@ fn short_buffers<S: Services>(caller: &mut Caller<S>, random: &mut Random) -> Ch
         (WHOLE, 20, WORK, (11, 21)),
         (AROUND, 7, WORK, (11, 8)),
         (ALONE, 10_501, WORK, (11, 10_502)),
+        ("110000C8 F0000000", 10_501, WORK, (11, 10_502)),
+        (LONG_361, 7, WORK, (11, 8)),
     ];
     for (log, out, work, due) in reports {
         report_refused(caller, &Subject::new(words(log)), Lengths { out, work }, due, random)?;
@@ -487,6 +665,11 @@ fn short_buffers<S: Services>(caller: &mut Caller<S>, random: &mut Random) -> Ch
         (BESIDE, 7, WORK, (11, 8)),
         (BESIDE, 8, WORK - 1, (12, 16_384)),
         (TWO_PAUSES, 5, WORK, (11, 6)),
+        // To words of links that do not count are counted here.
+        (LONG_361, 3, WORK, (11, 4)),
+        (LONG_THEN_SHORT, 5, WORK, (11, 6)),
+        (LONG_BESIDE, 7, 0, (11, 8)),
+        (LONG_361, 4, WORK - 1, (12, 16_384)),
     ];
     for (log, out, work, due) in copies {
         let subject = Subject::new(words(log));
@@ -517,21 +700,28 @@ fn at_the_ceilings<S: Services>(caller: &mut Caller<S>, random: &mut Random) -> 
     // or fall from 4,095 to 2,048.
     let none = vec![(0, 1, 0); 4_097];
     let falling: Vec<Noted> = (0..4_097).map(|i| (0, 1, 4_095 - i / 2)).collect();
-    let trimmed = words("10000002 20000000 30000001 F0000001");
+    // In version 1 the falling ones are too long.
+    let (one_link, no_link) = ((1, JOINED, "10000002 20000000 30000001 F0000001"), (0, PARTED, "10000002 F0000000"));
+    let full = [
+        (0, &none, one_link, "10000002 20000000 30000001 F0000001"),
+        (0, &falling, one_link, "10000002 20000000 38000001 F0000001"),
+        (1, &none, one_link, "11000002 20000000 30000001 F0000001"),
+        (1, &falling, no_link, "11000002 20000000 38000001 F0000001"),
+    ];
     for (splits, place) in [(0, 2 + 4_096), (16, 1 + 2 * 4_096 + 1)] {
-        for (links, copy) in [(&none, "10000002 20000000 30000001 F0000001"), (&falling, "10000002 20000000 38000001 F0000001")] {
-            let full = Subject::new(log(2, &links[..4_096], splits, random));
+        for (version, links, (count, report, trimmed), copy) in full {
+            let full = Subject::new(in_version(version, log(2, &links[..4_096], splits, random)));
             read_as(caller, &full, 2, 4_096, random)?;
-            counted_as(caller, &full, Ok(1), random)?;
+            counted_as(caller, &full, Ok(count), random)?;
             match caller.report(&full, PLENTY, random)? {
-                Gave::Report(_, said) if said == words("40000001 50000001 60000002 70000000 70000001 F0000005") => {}
-                _ => return differ("report", &full.words, "the report is that of one link".into()),
+                Gave::Report(_, said) if said == words(report) => {}
+                _ => return differ("report", &full.words, format!("the report is {report}")),
             }
             if caller.fair_copy(&full, PLENTY, random)?.as_ref() != Ok(&words(copy)) {
                 return differ("fair_copy", &full.words, format!("the copy is {copy}"));
             }
-            trimmed_as(caller, &full, PLENTY, &Trimmed::Copy(trimmed.clone()), random)?;
-            refused(caller, log(2, links, splits, random), (8, place), random)?;
+            trimmed_as(caller, &full, PLENTY, &Trimmed::Copy(words(trimmed)), random)?;
+            refused(caller, in_version(version, log(2, links, splits, random)), (8, place), random)?;
         }
     }
     let exact = Lengths { out: 8_194, work: WORK };
@@ -569,14 +759,16 @@ fn at_the_ceilings<S: Services>(caller: &mut Caller<S>, random: &mut Random) -> 
     trimmed_as(caller, &round, exact, &Trimmed::Loop(shown), random)
 }
 
-/// Every set of links on at most three episodes, without pauses and with pauses at random.
+/// Every set of links on at most three episodes: without pauses, with pauses at random, and in version 1 with 360 minutes
+/// beside all others with 361.
 fn at_most_three<S: Services>(caller: &mut Caller<S>, random: &mut Random) -> Checked<()> {
     for n in 0..=3 {
         for set in 0..1usize << (n * n) {
             let links: Vec<_> = (0..n * n).filter(|i| set >> i & 1 == 1).map(|i| (i / n, i % n)).collect();
             let count = links.len();
-            for links in [older(&links), shapes::noted(&links, random)] {
-                let subject = Subject::new(log(n, &links, 0, random));
+            let all = (0..n * n).map(|i| (i / n, i % n, if set >> i & 1 == 1 { 360 } else { 361 })).collect();
+            for (version, links) in [(0, older(&links)), (0, shapes::noted(&links, random)), (1, all)] {
+                let subject = Subject::new(in_version(version, log(n, &links, 0, random)));
                 caller.read(&subject, random)?;
                 counted_as(caller, &subject, Ok(count), random)?;
                 let _ = caller.fair_copy(&subject, PLENTY, random)?;

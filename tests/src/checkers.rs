@@ -3,7 +3,7 @@
 
 use crate::checks::{Check, Found};
 use crate::reference::{Graph, in_order, noted};
-use crate::words::{APART, END, LOOP, STEP, THREAD, WIDTH, kind, number};
+use crate::words::{APART, END, LOOP, STEP, THREAD, WIDTH, kind, number, version};
 
 /// A report taken apart, by the kinds of its words alone.
 #[derive(Clone, Debug, PartialEq, Eq)]
@@ -131,12 +131,16 @@ pub fn not_a_loop(steps: &[usize], graph: &Graph) -> Option<String> {
     (!graph.linked(last, first)).then(|| format!("{last} is not linked to {first}"))
 }
 
-/// What keeps the words from being a log with the episodes and the ways of the graph, without repeats, pauses and loops.
+/// What keeps the words from being a log of version 0 with the episodes and the ways of the graph, without repeats, pauses
+/// and loops.
 pub fn no_same_ways(words: &[u32], graph: &Graph) -> Option<String> {
     let (n, t) = match in_order(words) {
         Ok(read) => read,
         Err(refusal) => return Some(format!("the trimmed copy is refused {} at {}", refusal.number, refusal.place)),
     };
+    if version(words[0]) != 0 {
+        return Some(format!("the trimmed copy is of version {}", version(words[0])));
+    }
     let copy = Graph::of(words);
     if n != graph.n {
         return Some(format!("{n} episodes instead of {}", graph.n));

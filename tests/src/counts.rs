@@ -1,7 +1,10 @@
 //! How often everything was met, and the table that a run ends with.
 
 use crate::beside::Tally;
-use crate::words::{LONGEST_PAUSE, Link, Noted, TO, episode, kind, number, pause};
+use crate::reference::{Graph, least};
+use crate::shapes::BORDERS;
+use crate::words::{HEAD, LARGEST_PAUSE, LONGEST_COUNTED, Link, Noted, TO};
+use crate::words::{episode, episodes, kind, number, pause, version};
 use std::collections::BTreeSet;
 
 /// A list of things that are counted, each with its name in the table.
@@ -68,6 +71,54 @@ counted! {
     }
 }
 
+/// The versions that a head can have.
+const VERSIONS: [&str; 16] = ["0", "1", "2", "3", "4", "5", "6", "7", "8", "9", "10", "11", "12", "13", "14", "15"];
+
+counted! {
+    /// The first words of logs.
+    First {
+        ManyZero = "version 0, more than 200 episodes",
+        ManyOne = "version 1, more than 200 episodes",
+        ManyOther = "version 2 to 15, more than 200 episodes",
+        LowZero = "version 0, more than 200 episodes, but not by the low 16 bits",
+        LowOne = "version 1, more than 200 episodes, but not by the low 16 bits",
+        NoHead = "no head, with 2 to 15 in bits 24 to 27",
+        Only = "version 2 to 15, no other word",
+    }
+}
+
+/// The least pauses that are counted, those of `BORDERS`, in version 0 and in version 1.
+const LEAST: [&str; 2 * BORDERS.len()] = [
+    "0 minutes, version 0",
+    "359 minutes, version 0",
+    "360 minutes, version 0",
+    "361 minutes, version 0",
+    "400 minutes, version 0",
+    "4,095 minutes, version 0",
+    "0 minutes, version 1",
+    "359 minutes, version 1",
+    "360 minutes, version 1",
+    "361 minutes, version 1",
+    "400 minutes, version 1",
+    "4,095 minutes, version 1",
+];
+
+counted! {
+    /// What links with more than 360 minutes do in logs that pass. A log can be of several of these.
+    Long {
+        Kept = "version 0, links with more than 360 minutes",
+        KeptLoop = "version 0, a loop that only such links close",
+        None = "version 1, every link counts",
+        Some = "version 1, some links count and some do not",
+        All = "version 1, no link counts",
+        Shortened = "version 1, a link with more than 360 minutes, then with fewer",
+        Repeated = "version 1, a link with at most 360 minutes, then with more",
+        Open = "version 1, a loop that only links that do not count close",
+        Loop = "version 1, a loop of links that count beside links that do not",
+        Round = "version 1, a link that stays, round which links lead that do not count",
+    }
+}
+
 counted! {
     /// The links of logs that are counted. A log can be of several of these.
     Links {
@@ -84,6 +135,7 @@ counted! {
         Far128 = "to two episodes that are 128 apart",
         From128 = "from two episodes that are 128 apart to the same one",
         Most = "4,096 different ones",
+        Uncounted = "some that do not count",
     }
 }
 
@@ -118,6 +170,10 @@ counted! {
         PausedOut = "a later episode too high, with a pause",
         FromBits = "bits 16 to 27 of a from word set",
         EndBits = "bits 16 to 27 of head or end set",
+        VersionBit = "a bit of the version turned",
+        Version = "another version",
+        VersionMany = "another version, and more than 200 episodes",
+        VersionKind = "another version, and another kind of the first word",
     }
 }
 
@@ -158,10 +214,12 @@ counted! {
         ReadBack = "copy read back",
         CopyOfCopy = "copy of a copy",
         Counted = "links counted, of log, copy and log with the same links",
-        OtherPauses = "same links, other pauses",
-        LinkMore = "a link more",
+        OtherPauses = "same links that count, other pauses",
+        LinkMore = "a link more that counts",
+        LongMore = "a link more that does not count",
         EpisodeMore = "an episode more",
-        OtherPause = "another least pause",
+        OtherPause = "another least pause, and the same links count",
+        OverBorder = "another least pause, and a link more or fewer counts",
         OwnThreads = "threads of its own report",
         SameOutcome = "same outcome of report and trimmed copy",
         Damaged = "same outcome, a damaged log",
@@ -171,6 +229,13 @@ counted! {
         WayMore = "a way more",
         WayFewer = "a way fewer",
         TrimmedEpisode = "an episode more, trimmed",
+        TrimmedVersions = "same ways, another version",
+        BothVersions = "one log in both versions",
+        Wider = "one log in both versions, wider in version 1",
+        LoopGone = "one log in both versions, a loop in version 0 alone",
+        ShortPauses = "one log in both versions, no pause above 360",
+        CountedAlone = "a log of version 1, and its links that count alone",
+        ZeroPauses = "version 0, other pauses and repeats",
     }
 }
 
@@ -187,7 +252,7 @@ impl Pauses {
         meet(Pauses::Older, longest == Some(0));
         meet(Pauses::Few, longest.is_some_and(|pause| (1..=3).contains(&pause)));
         meet(Pauses::More, longest.is_some_and(|pause| pause > 3));
-        meet(Pauses::Longest, longest == Some(LONGEST_PAUSE));
+        meet(Pauses::Longest, longest == Some(LARGEST_PAUSE));
         // The repeats of a link side by side, in the order of the log; and each link with its least pause.
         let mut sorted = noted.to_vec();
         sorted.sort_by_key(|link| (link.0, link.1));
@@ -213,9 +278,64 @@ impl Pauses {
     }
 }
 
+impl First {
+    /// Those of a log of two words or more, with a head of this version that gives n episodes.
+    fn met(version: usize, n: usize) -> Vec<First> {
+        let low = n % 65_536 <= 200;
+        match (version, n) {
+            (_, 0..=200) => Vec::new(),
+            (0, _) if low => vec![First::ManyZero, First::LowZero],
+            (0, _) => vec![First::ManyZero],
+            (1, _) if low => vec![First::ManyOne, First::LowOne],
+            (1, _) => vec![First::ManyOne],
+            _ => vec![First::ManyOther],
+        }
+    }
+}
+
+/// The least pauses of a log that passes, by their rows, and what its long pauses do.
+pub struct LongPauses {
+    least: Vec<usize>,
+    long: Vec<Long>,
+}
+
+impl LongPauses {
+    /// Those of a log of this version, in which all links, and the links that count, have a loop or none. `round` is asked
+    /// whether links that do not count lead round one that stays.
+    pub fn of(version: usize, n: usize, noted: &[Noted], loops: (bool, bool), round: impl FnOnce() -> bool) -> LongPauses {
+        let once = least(noted);
+        let borders = (0..BORDERS.len()).filter(|&border| once.iter().any(|link| link.2 == BORDERS[border]));
+        let borders = borders.map(|border| version * BORDERS.len() + border).collect();
+        let is_long = |link: &Noted| link.2 > LONGEST_COUNTED;
+        let short: Vec<Link> = once.iter().filter(|link| !is_long(link)).map(|&(from, to, _)| (from, to)).collect();
+        let (some, all) = (short.len() < once.len(), short.is_empty() && !once.is_empty());
+        let mut sorted = noted.to_vec();
+        sorted.sort_by_key(|link| (link.0, link.1));
+        let then = |first: bool| {
+            let again = |two: &[Noted]| (two[0].0, two[0].1) == (two[1].0, two[1].1);
+            sorted.windows(2).any(|two| again(two) && is_long(&two[0]) == first && is_long(&two[1]) != first)
+        };
+        let (all_loop, has_loop) = loops;
+        let met = match version {
+            0 => vec![(Long::Kept, some), (Long::KeptLoop, some && has_loop && !Graph::new(n, short).has_loop())],
+            _ => vec![
+                (Long::None, !once.is_empty() && !some),
+                (Long::Some, some && !all),
+                (Long::All, all),
+                (Long::Shortened, then(true)),
+                (Long::Repeated, then(false)),
+                (Long::Open, all_loop && !has_loop),
+                (Long::Loop, some && has_loop),
+                (Long::Round, some && !all && !has_loop && round()),
+            ],
+        };
+        LongPauses { least: borders, long: met.into_iter().filter(|met| met.1).map(|met| met.0).collect() }
+    }
+}
+
 impl Links {
-    /// Those of a log that passes, which has a loop or none.
-    pub fn met(log: &[u32], has_loop: bool) -> Vec<Links> {
+    /// Those of a log that passes: its links that count, which have a loop or none.
+    pub fn met(log: &[u32], graph: &Graph, has_loop: bool) -> Vec<Links> {
         // Each to word with its two episodes, its group, its pause and its own number, the repeats of a link side by side.
         let (mut from, mut group, mut all) = (0, 0, Vec::new());
         for &given in &log[1..log.len() - 1] {
@@ -224,8 +344,10 @@ impl Links {
                 _ => (from, group) = (number(given), group + 1),
             }
         }
+        let once: BTreeSet<Link> = graph.links.iter().copied().collect();
+        let given = all.len();
+        all.retain(|to| once.contains(&to.0));
         all.sort_by_key(|to| to.0);
-        let once: BTreeSet<Link> = all.iter().map(|to| to.0).collect();
         let any = |holds: &dyn Fn(Link) -> bool| once.iter().any(|&link| holds(link));
         let again =
             |holds: fn(&GivenTo, &GivenTo) -> bool| all.windows(2).any(|two| two[0].0 == two[1].0 && holds(&two[0], &two[1]));
@@ -243,6 +365,7 @@ impl Links {
             (Links::Far128, any(&|(from, to)| once.contains(&(from, to + 128)))),
             (Links::From128, any(&|(from, to)| once.contains(&(from + 128, to)))),
             (Links::Most, once.len() == 4_096),
+            (Links::Uncounted, all.len() < given),
         ];
         met.into_iter().filter(|met| met.1).map(|met| met.0).collect()
     }
@@ -254,15 +377,15 @@ type GivenTo = (Link, usize, usize, usize);
 const SERVICES: usize = Service::NAMES.len();
 
 /// One more than the largest refusal number.
-const NUMBERS: usize = 18;
+const NUMBERS: usize = 19;
 
 /// The answers that each service can give, all of which have to be met.
 const MUST: [&[usize]; SERVICES] = [
-    &[0, 1, 2, 3, 4, 5, 6, 7, 8, 9, 10],
-    &[0, 1, 2, 3, 4, 5, 6, 7, 8, 9, 10],
-    &[0, 1, 2, 3, 4, 5, 6, 7, 8, 9, 10, 11, 12, 13],
-    &[0, 1, 2, 3, 4, 5, 6, 7, 8, 9, 10, 11, 12],
-    &[0, 1, 2, 3, 4, 5, 6, 7, 8, 9, 10, 11, 12, 13],
+    &[0, 1, 2, 3, 4, 5, 6, 7, 8, 9, 10, 18],
+    &[0, 1, 2, 3, 4, 5, 6, 7, 8, 9, 10, 18],
+    &[0, 1, 2, 3, 4, 5, 6, 7, 8, 9, 10, 11, 12, 13, 18],
+    &[0, 1, 2, 3, 4, 5, 6, 7, 8, 9, 10, 11, 12, 18],
+    &[0, 1, 2, 3, 4, 5, 6, 7, 8, 9, 10, 11, 12, 13, 18],
     &[0, 16, 17],
 ];
 
@@ -271,7 +394,7 @@ pub struct Counts {
     pub calls: u64,
     pub rounds: u64,
     numbers: [[u64; NUMBERS]; SERVICES],
-    lists: [(&'static str, &'static [&'static str], Vec<u64>); 12],
+    lists: [(&'static str, &'static [&'static str], Vec<u64>); 17],
     /// The calls that were compared with an older build.
     pub beside: Tally,
 }
@@ -296,6 +419,11 @@ impl Counts {
                 list("calls by pauses of a log that passes", Pauses::NAMES),
                 list("calls refused by question 7, by its word", Seventh::NAMES),
                 list("link counts given, by links of the log", Links::NAMES),
+                list("calls by version in the head", &VERSIONS),
+                list("calls by first word", First::NAMES),
+                list("calls by shape of log, in version 1", Shape::NAMES),
+                list("calls by a least pause of a log that passes", &LEAST),
+                list("calls by long pauses of a log that passes", Long::NAMES),
             ],
             beside: Tally::default(),
         }
@@ -308,9 +436,31 @@ impl Counts {
         }
     }
 
-    pub fn shape(&mut self, shape: Shape, paused: bool) {
+    /// A call on a log of that shape.
+    pub fn shape(&mut self, shape: Shape, log: &[u32]) {
+        let paused = log.iter().any(|&given| kind(given) == TO && pause(given) > 0);
+        let one = log.first().is_some_and(|&head| kind(head) == HEAD && version(head) == 1);
         self.lists[0].2[shape as usize] += 1;
         self.lists[8].2[shape as usize] += u64::from(paused);
+        self.lists[14].2[shape as usize] += u64::from(one);
+    }
+
+    /// A call on a log: its first word.
+    pub fn first(&mut self, log: &[u32]) {
+        let Some(&head) = log.first() else { return };
+        let version = version(head);
+        let met = match (kind(head), log.len()) {
+            (HEAD, 1) if version > 1 => vec![First::Only],
+            (HEAD, 2..) => First::met(version, episodes(head)),
+            (_, 2..) if version > 1 => vec![First::NoHead],
+            _ => Vec::new(),
+        };
+        for first in met {
+            self.lists[13].2[first as usize] += 1;
+        }
+        if kind(head) == HEAD {
+            self.lists[12].2[version] += 1;
+        }
     }
 
     pub fn size(&mut self, n: usize) {
@@ -353,13 +503,23 @@ impl Counts {
         self.lists[11].2[links as usize] += 1;
     }
 
+    /// A call on a log with these pauses.
+    pub fn long_pauses(&mut self, long_pauses: &LongPauses) {
+        for &least in &long_pauses.least {
+            self.lists[15].2[least] += 1;
+        }
+        for &long in &long_pauses.long {
+            self.lists[16].2[long as usize] += 1;
+        }
+    }
+
     /// Question 7 refuses the word at `place`.
     pub fn seventh(&mut self, log: &[u32], place: usize) {
         let given = log[place];
         let seventh = match kind(given) {
             TO if pause(given) > 0 => Seventh::ToPaused,
             TO => Seventh::To,
-            _ if episode(given) < number(log[0]) => Seventh::FromLow,
+            _ if episode(given) < episodes(log[0]) => Seventh::FromLow,
             _ => Seventh::From,
         };
         self.lists[10].2[seventh as usize] += 1;

@@ -2,8 +2,8 @@
 
 use crate::counts::Damage;
 use crate::random::Random;
-use crate::shapes::any_pause;
-use crate::words::{FROM, LARGEST, LONGEST_PAUSE, TO, episode, kind, number, to_word, word};
+use crate::shapes::{MANY, any_pause};
+use crate::words::{FROM, LARGEST, LARGEST_PAUSE, TO, episode, episodes, head_word, kind, number, to_word, word};
 
 /// Damages a log in one way. A way that needs words that are not there leaves the log as it is.
 pub fn to_log(words: &mut Vec<u32>, random: &mut Random) -> Damage {
@@ -20,13 +20,17 @@ pub fn to_log(words: &mut Vec<u32>, random: &mut Random) -> Damage {
         (Truncated, 2),
         (Emptied, 2),
         (Head, 3),
-        (End, 4),
+        (End, 6),
         (From, 3),
         (FirstFrom, 2),
         (Pause, 3),
         (PausedOut, 4),
         (FromBits, 4),
         (EndBits, 3),
+        (VersionBit, 3),
+        (Version, 3),
+        (VersionMany, 3),
+        (VersionKind, 2),
     ]);
     do_damage(damage, words, random);
     damage
@@ -66,7 +70,8 @@ fn do_damage(damage: Damage, words: &mut Vec<u32>, random: &mut Random) {
         Damage::End => words[length - 1] = changed(words[length - 1], random),
         Damage::From => {
             let at = if random.chance(1, 2) { length - 1 } else { place };
-            words.insert(at, word(FROM, random.below(8)));
+            let low = random.below(8);
+            words.insert(at, word(FROM, *random.pick(&[low, low, episodes(words[0]), 255])));
         }
         Damage::FirstFrom => {
             if let Some(at) = words.iter().position(|&word| kind(word) == FROM) {
@@ -80,8 +85,8 @@ fn do_damage(damage: Damage, words: &mut Vec<u32>, random: &mut Random) {
         }
         Damage::PausedOut => {
             if let Some(at) = any_of(TO, words, random) {
-                let (n, low) = (number(words[0]), episode(words[at]));
-                let episode = *random.pick(&[n, n + 1, 255, 256, low | 256, low | 0x4000, low | 0x8000, 65_535]);
+                let (n, low) = (episodes(words[0]), episode(words[at]));
+                let episode = *random.pick(&[n, n + 1, 255, 256, low | 256, low | 0x4000, low | 0x8000, low | 0x8000, 65_535]);
                 words[at] = to_word(episode, 0) | word(0, high_bits(random));
             }
         }
@@ -94,6 +99,10 @@ fn do_damage(damage: Damage, words: &mut Vec<u32>, random: &mut Random) {
             let at = if random.chance(1, 2) { 0 } else { length - 1 };
             words[at] |= word(0, high_bits(random));
         }
+        Damage::VersionBit => words[0] ^= 1 << random.between(24, 27),
+        Damage::Version => words[0] = word(kind(words[0]), number(head_word(random.below(16), episodes(words[0])))),
+        Damage::VersionMany => words[0] = head_word(random.below(16), *random.pick(&MANY)),
+        Damage::VersionKind => words[0] = word(random.below(16) as u32, number(head_word(random.below(16), random.below(260)))),
     }
 }
 
@@ -105,7 +114,7 @@ fn any_of(wanted: u32, words: &[u32], random: &mut Random) -> Option<usize> {
 
 /// A number that has some of the bits 16 to 27, and no other.
 fn high_bits(random: &mut Random) -> usize {
-    let bits = if random.chance(1, 2) { 1 << random.below(12) } else { random.between(1, LONGEST_PAUSE) };
+    let bits = if random.chance(1, 2) { 1 << random.below(12) } else { random.between(1, LARGEST_PAUSE) };
     bits << 16
 }
 

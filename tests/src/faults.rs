@@ -1,12 +1,13 @@
 //! Deliberate faults: each alters what the library answers or leaves. The checks have to catch every one.
 
 use crate::checkers::{self, Shown};
+use crate::counts::Service;
 use crate::lent::Lent;
 use crate::reference::{Graph, WORK, copy_need, copy_words, in_order, least, noted, parts, report_need};
 use crate::services::{Answer, Door, Library, ReadAnswer, Services, ThreadAnswer};
-use crate::words::{APART, END, FROM, HEAD, LARGEST, LONGEST_PAUSE, Link, Noted, STEP, THREAD, TO, WIDTH};
-use crate::words::{episode, kind, number, older, pause, to_word, word};
-use std::collections::BTreeSet;
+use crate::words::{APART, END, FROM, HEAD, LARGEST, LARGEST_PAUSE, LONGEST_COUNTED, Link, Noted, STEP, THREAD, TO, WIDTH};
+use crate::words::{episode, episodes, head_word, in_version, kind, number, older, pause, to_word, version, word};
+use std::collections::{BTreeMap, BTreeSet};
 
 macro_rules! faults {
     ($($fault:ident = $name:literal,)*) => {
@@ -156,6 +157,61 @@ faults! {
     CountKeptRefused = "links before a refusal kept for the next link count",
     CountRust = "to words counted for links by the Rust wrapper alone",
     CountC = "to words counted for links by the C header alone",
+    BorderOut = "a link with a least pause of 360 does not count",
+    BorderIn = "a link with a least pause of 361 counts",
+    BorderBits = "long by the low 9 bits of a pause",
+    BorderSigned = "pauses with bit 27 taken for short",
+    BorderZero = "a link with a least pause of 0 does not count in version 1",
+    ZeroDrops = "version 0 drops links with more than 360 minutes",
+    ZeroRepeats = "version 0 drops links that are repeated with more than 360 minutes",
+    OneKeeps = "version 1 keeps every link",
+    OneDrops = "version 1 drops every link",
+    OneRepeats = "version 1 keeps links that are repeated",
+    VersionsTurned = "versions 0 and 1 the wrong way round",
+    LongLargest = "the largest pause of a link asked for its least",
+    LongFirst = "the first pause of a link asked for its least",
+    LongLast = "the last pause of a link asked for its least",
+    LongSum = "the sum of a link's pauses asked for its least",
+    LongBack = "a link counts where the link back does",
+    LongGroup = "an episode's links count where one of them does",
+    ReportLong = "the report with links that do not count",
+    LoopLong = "a loop closed by a link that does not count",
+    CountLong = "the link count with links that do not count",
+    TrimLong = "trimming with links that do not count",
+    TrimLongAdded = "the trimmed copy with links that do not count beside those that stay",
+    TrimLongRound = "a link dropped for a path over links that do not count",
+    TrimVersion = "the trimmed copy with the version of the log",
+    CopyVersion = "the fair copy without its version",
+    CopyVersionOne = "every fair copy of version 1",
+    CopyOfCopy = "the last link left out of the fair copy of a fair copy",
+    CopyNoLong = "links that do not count left out of the fair copy",
+    CopyShort = "long pauses cut to 361 in the fair copy",
+    ReadHead = "the version in the n of the reading",
+    ReadNoLong = "to words of links that do not count left out of the reading's count",
+    SevenNoLong = "question 7 not asked of to words with more than 360 minutes",
+    EightNoLong = "the reading's question 8 without to words of links that do not count",
+    TenNoLong = "question 10 without to words of links that do not count",
+    NeedNoLong = "11 for a copy without to words of links that do not count",
+    TrimNeedNoLong = "11 for a trimmed copy without to words of links that do not count",
+    HeadWhole = "n by all 28 bits of the head",
+    ThreeFirst = "question 3 before question 18",
+    ThreeForEighteen = "3 for 18",
+    EighteenOne = "18 for version 1",
+    VersionUnasked = "question 18 not asked, and version 1 for the others",
+    VersionBit = "the version by its lowest bit alone",
+    VersionTwoBits = "the version by its low 2 bits alone",
+    VersionThreeBits = "the version by its low 3 bits alone",
+    EighteenBeforeOne = "question 18 before question 1",
+    EighteenBeforeTwo = "question 18 before question 2",
+    EighteenLast = "question 18 after question 10",
+    EighteenPlace = "18 with the version as its place",
+    EighteenWrites = "18 writes to the output",
+    EighteenClears = "18 clears the work buffer",
+    EighteenRead = "question 18 not asked by the reading",
+    EighteenLinks = "question 18 not asked by the link count",
+    EighteenReport = "question 18 not asked by the report",
+    EighteenFair = "question 18 not asked by the fair copy",
+    EighteenTrim = "question 18 not asked by the trimmed copy",
 }
 
 /// The library with a fault, and the links that the fault keeps from one call to the next.
@@ -166,10 +222,14 @@ impl Faulty {
         Faulty(fault, BTreeSet::new())
     }
 
-    /// A call of the library, which gets the words of the log as the fault misreads them.
-    fn misread<T>(&self, log: &mut Lent, call: impl FnOnce(&mut Lent) -> T) -> T {
+    /// A call of a service of the library, which gets the words of the log as the fault misreads them.
+    fn misread<T>(&self, service: Service, log: &mut Lent, call: impl FnOnce(&mut Lent) -> T) -> T {
         let words = log.lent().to_vec();
         let last = words.len().saturating_sub(1);
+        let long = |given: u32| version(words[0]) == 1 && pause(given) > LONGEST_COUNTED;
+        if let Some(other) = recounted(self.0, service, &words) {
+            log.lent_mut().copy_from_slice(&other);
+        }
         for (place, given) in log.lent_mut().iter_mut().enumerate() {
             let low = word(kind(*given), episode(*given));
             *given = match (self.0, kind(*given)) {
@@ -179,8 +239,9 @@ impl Faulty {
                 (Fault::EpisodeByte, TO) => to_word(episode(*given) % 256, pause(*given)),
                 (Fault::EpisodeBit, TO) => to_word(episode(*given) % 32_768, pause(*given)),
                 (Fault::PauseBit, TO) => to_word(episode(*given), pause(*given) % 2_048),
-                (Fault::HeadLow, _) if place == 0 => low,
+                (Fault::SevenNoLong, TO) if long(*given) && episode(*given) >= episodes(words[0]) => to_word(0, pause(*given)),
                 (Fault::EndLow, _) if place == last => low,
+                (fault, HEAD) if place == 0 => misread_head(fault, service, *given),
                 _ => *given,
             }
         }
@@ -191,8 +252,16 @@ impl Faulty {
 
     /// Faults of the reading, in every service that reads a log.
     fn refusal(&self, log: &[u32], number: u32, place: usize) -> (u32, usize) {
-        let n = log.first().map_or(0, |&head| self::number(head));
+        let (n, version) = log.first().map_or((0, 0), |&head| (episodes(head), version(head)));
+        let after = || in_order(&in_version(0, log.to_vec())).err();
         match self.0 {
+            Fault::TenNoLong if number == 0 && to_words_counted(log) < to_words(log) => (10, log.len() - 1),
+            Fault::ThreeFirst if number == 18 && n > 200 => (3, 0),
+            Fault::ThreeForEighteen if number == 18 => (3, 0),
+            Fault::EighteenBeforeOne if number == 1 && version > 1 => (18, 0),
+            Fault::EighteenBeforeTwo if number == 2 && version > 1 => (18, 0),
+            Fault::EighteenLast if number == 18 => after().map_or((18, 0), |refusal| (refusal.number, refusal.place)),
+            Fault::EighteenPlace if number == 18 => (18, version),
             Fault::PlaceOff if (4..=10).contains(&number) => (number, place + 1),
             Fault::SevenBeforeSix if number == 6 && self::number(log[place]) >= n => (7, place),
             Fault::EightEarly if in_order(log).is_ok_and(|read| read.1 == 4_096) => (8, log.len() - 2),
@@ -213,10 +282,122 @@ impl Faulty {
             Fault::OutsideWork => work.with_outside_mut()[15] ^= 1,
             Fault::RefusalWrites if answer.number == 12 => changed(out.lent_mut(), 1),
             Fault::RefusalClears if answer.number == 11 => work.lent_mut().fill(0),
+            Fault::EighteenWrites if answer.number == 18 => changed(out.lent_mut(), 1),
+            Fault::EighteenClears if answer.number == 18 => work.lent_mut().fill(0),
             Fault::LogChanged => changed(log.lent_mut(), 1),
             _ => {}
         }
     }
+}
+
+/// The head as the fault misreads it.
+fn misread_head(fault: Fault, service: Service, head: u32) -> u32 {
+    let (version, n) = (version(head), episodes(head));
+    match (fault, service) {
+        (Fault::HeadLow, _) => head_word(version, n % 65_536),
+        (Fault::HeadWhole, _) if version == 1 => head_word(0, 201),
+        (Fault::EighteenOne, _) if version == 1 => head_word(2, n),
+        (Fault::VersionUnasked, _)
+        | (Fault::EighteenRead, Service::Read)
+        | (Fault::EighteenLinks, Service::Links)
+        | (Fault::EighteenReport, Service::Report)
+        | (Fault::EighteenFair, Service::FairCopy)
+        | (Fault::EighteenTrim, Service::TrimmedCopy) => head_word(version.min(1), n),
+        (Fault::VersionBit, _) => head_word(version % 2, n),
+        (Fault::VersionTwoBits, _) => head_word(version % 4, n),
+        (Fault::VersionThreeBits, _) => head_word(version % 8, n),
+        _ => head,
+    }
+}
+
+/// Whether a link with these pauses, in the order of the log, counts with the fault; none where the fault is another.
+fn counts(fault: Fault, service: Service, version: usize, pauses: &[usize], all_loop: bool) -> Option<bool> {
+    let short = |pause: usize| pause <= LONGEST_COUNTED;
+    let least = pauses.iter().copied().min().unwrap_or(0);
+    let right = version == 0 || short(least);
+    Some(match (fault, service) {
+        (Fault::BorderOut, _) => version == 0 || least < LONGEST_COUNTED,
+        (Fault::BorderIn, _) => version == 0 || least <= LONGEST_COUNTED + 1,
+        (Fault::BorderBits, _) => version == 0 || pauses.iter().any(|pause| short(pause % 512)),
+        (Fault::BorderSigned, _) => version == 0 || pauses.iter().any(|&pause| short(pause) || pause >= 2_048),
+        (Fault::BorderZero, _) => version == 0 || (least > 0 && short(least)),
+        (Fault::ZeroDrops, _) => short(least),
+        (Fault::ZeroRepeats, _) => right && (version == 1 || pauses.len() == 1 || pauses.iter().all(|&pause| short(pause))),
+        (Fault::OneKeeps, _) => true,
+        (Fault::OneRepeats, _) => right || pauses.len() > 1,
+        (Fault::OneDrops, _) => version == 0,
+        (Fault::VersionsTurned, _) => version == 1 || short(least),
+        (Fault::LongLargest, _) => version == 0 || pauses.iter().all(|&pause| short(pause)),
+        (Fault::LongFirst, _) => version == 0 || short(pauses[0]),
+        (Fault::LongLast, _) => version == 0 || short(pauses[pauses.len() - 1]),
+        (Fault::LongSum, _) => version == 0 || short(pauses.iter().sum()),
+        (Fault::LongBack | Fault::LongGroup, _) => right,
+        (Fault::LoopLong, Service::Report | Service::TrimmedCopy) => right || all_loop,
+        (Fault::ReportLong, Service::Report) => true,
+        (Fault::CountLong, Service::Links) => true,
+        (Fault::TrimLong, Service::TrimmedCopy) => true,
+        _ => return None,
+    })
+}
+
+/// A log of version 1 in which those links count that count with the fault: their to words have pause 0, the others the largest.
+/// None where the fault is another, the log is refused, or the service does not ask which links count.
+fn recounted(fault: Fault, service: Service, log: &[u32]) -> Option<Vec<u32>> {
+    let asked = matches!(service, Service::Links | Service::Report | Service::TrimmedCopy);
+    if !asked || counts(fault, service, 0, &[0], false).is_none() || in_order(log).is_err() {
+        return None;
+    }
+    let of_all = fault == Fault::LoopLong && Graph::of_all(log).has_loop();
+    let key = |from: usize, to: usize| match fault {
+        Fault::LongBack => (from.min(to), from.max(to)),
+        Fault::LongGroup => (from, 0),
+        _ => (from, to),
+    };
+    let mut pauses: BTreeMap<Link, Vec<usize>> = BTreeMap::new();
+    for (from, to, pause) in noted(log) {
+        pauses.entry(key(from, to)).or_default().push(pause);
+    }
+    let mut from = 0;
+    let mut words = in_version(1, log.to_vec());
+    for given in &mut words[1..log.len() - 1] {
+        match kind(*given) {
+            TO => {
+                let counts = counts(fault, service, version(log[0]), &pauses[&key(from, episode(*given))], of_all)?;
+                *given = to_word(episode(*given), if counts { 0 } else { LARGEST_PAUSE });
+            }
+            _ => from = number(*given),
+        }
+    }
+    Some(words)
+}
+
+/// How many to words the words have.
+fn to_words(words: &[u32]) -> usize {
+    words.iter().filter(|&&given| kind(given) == TO).count()
+}
+
+/// How many of them give links that count.
+fn to_words_counted(words: &[u32]) -> usize {
+    let links = least(&heard(words));
+    let joins = |link: &&Noted| {
+        let place = links.binary_search_by_key(&(link.0, link.1), |known| (known.0, known.1));
+        version(words[0]) == 0 || place.is_ok_and(|place| links[place].2 <= LONGEST_COUNTED)
+    };
+    heard(words).iter().filter(joins).count()
+}
+
+/// The links that words give, whatever they are.
+fn heard(words: &[u32]) -> Vec<Noted> {
+    let mut from = 0;
+    let mut links = Vec::new();
+    for &given in words {
+        match kind(given) {
+            FROM => from = number(given),
+            TO => links.push((from, episode(given), pause(given))),
+            _ => {}
+        }
+    }
+    links
 }
 
 /// Changes the word that stands `from_end` words before the end, where there is one.
@@ -269,12 +450,12 @@ fn turned(graph: &Graph) -> Vec<u32> {
 /// The log without the links whose least pause is above 0.
 fn without_paused(log: &[u32]) -> Vec<u32> {
     let links: Vec<Noted> = least(&noted(log)).into_iter().filter(|link| link.2 == 0).collect();
-    copy_words(number(log[0]), &links)
+    copy_words(0, episodes(log[0]), &links)
 }
 
 /// The library's report on a log, on buffers that suffice, taken apart.
 fn shown_on(log: &[u32]) -> Option<Shown> {
-    let (mut out, mut work) = (vec![0; report_need(number(log[0]))], vec![0; WORK]);
+    let (mut out, mut work) = (vec![0; report_need(episodes(log[0]))], vec![0; WORK]);
     let zohapy::Outcome::Report(count) = zohapy::report(log, &mut out, &mut work) else { return None };
     checkers::layout(&out[..count]).ok()
 }
@@ -427,9 +608,9 @@ fn altered(fault: Fault, log: &[u32], mut shown: Shown) -> Option<Shown> {
 fn altered_loop(fault: Fault, log: &[u32], steps: &mut Vec<u32>) {
     match fault {
         Fault::LoopPause => {
-            let mut episodes: Vec<usize> = steps.iter().map(|&step| number(step)).collect();
-            add_pauses(log, &mut episodes);
-            *steps = episodes.into_iter().map(|step| word(STEP, step)).collect();
+            let mut with_pauses: Vec<usize> = steps.iter().map(|&step| number(step)).collect();
+            add_pauses(log, &mut with_pauses);
+            *steps = with_pauses.into_iter().map(|step| word(STEP, step)).collect();
         }
         Fault::LoopTurned | Fault::TrimLoopTurned => steps.rotate_left(1),
         Fault::LoopOpen if steps.len() > 1 => drop(steps.pop()),
@@ -472,7 +653,7 @@ fn altered_pauses(fault: Fault, log: &[u32]) -> Option<Vec<Noted>> {
         Fault::PauseLargest => links = chosen(log, |pauses| pauses.iter().copied().max().unwrap_or(0)),
         Fault::PauseFirst => links = chosen(log, |pauses| pauses[0]),
         Fault::PauseLast => links = chosen(log, |pauses| pauses[pauses.len() - 1]),
-        Fault::PauseSum => links = chosen(log, |pauses| pauses.iter().sum::<usize>().min(LONGEST_PAUSE)),
+        Fault::PauseSum => links = chosen(log, |pauses| pauses.iter().sum::<usize>().min(LARGEST_PAUSE)),
         Fault::PauseSigned => {
             let signed = |pause: &usize| (pause + 2_048) % 4_096;
             links = chosen(log, |pauses| pauses.iter().copied().min_by_key(signed).unwrap_or(0));
@@ -480,7 +661,10 @@ fn altered_pauses(fault: Fault, log: &[u32]) -> Option<Vec<Noted>> {
         Fault::PauseZero => {
             links = chosen(log, |pauses| smallest(&Vec::from_iter(pauses.iter().copied().filter(|&pause| pause > 0))));
         }
-        Fault::PauseMost => links.retain(|link| link.2 < LONGEST_PAUSE),
+        Fault::PauseMost => links.retain(|link| link.2 < LARGEST_PAUSE),
+        Fault::CopyOfCopy if copy_words(version(log[0]), episodes(log[0]), &links) == log => drop(links.pop()),
+        Fault::CopyNoLong if version(log[0]) == 1 => links.retain(|link| link.2 <= LONGEST_COUNTED),
+        Fault::CopyShort => links.iter_mut().for_each(|link| link.2 = link.2.min(LONGEST_COUNTED + 1)),
         Fault::PauseGroup => {
             for group in links.chunk_by_mut(|one, next| one.0 == next.0) {
                 let pause = smallest(&Vec::from_iter(group.iter().map(|link| link.2)));
@@ -495,7 +679,7 @@ fn altered_pauses(fault: Fault, log: &[u32]) -> Option<Vec<Noted>> {
             }
         }
         Fault::PauseKept => {
-            let mut known = vec![LONGEST_PAUSE; number(log[0])];
+            let mut known = vec![LARGEST_PAUSE; episodes(log[0])];
             for link in &mut links {
                 known[link.1] = known[link.1].min(link.2);
                 link.2 = known[link.1];
@@ -538,12 +722,14 @@ fn altered_copy(fault: Fault, log: &[u32], copy: &mut Vec<u32>) {
         Fault::CopyAsIs => *copy = log.to_vec(),
         Fault::CopyNoLoops => {
             let others: Vec<Noted> = noted(copy).into_iter().filter(|link| link.0 != link.1).collect();
-            *copy = copy_words(number(copy[0]), &others);
+            *copy = copy_words(version(copy[0]), episodes(copy[0]), &others);
         }
-        Fault::CopyHead => copy[0] = word(HEAD, 200),
+        Fault::CopyHead => copy[0] = head_word(version(copy[0]), 200),
+        Fault::CopyVersion => copy[0] = head_word(0, episodes(copy[0])),
+        Fault::CopyVersionOne => copy[0] = head_word(1, episodes(copy[0])),
         _ => {
             if let Some(links) = altered_pauses(fault, log) {
-                *copy = copy_words(number(copy[0]), &links);
+                *copy = copy_words(version(copy[0]), episodes(copy[0]), &links);
             }
         }
     }
@@ -577,14 +763,21 @@ fn altered_trimmed(fault: Fault, log: &[u32], copy: &mut Vec<u32>) {
         }
         Fault::TrimPause => {
             let links = least(&noted(log)).into_iter().filter(|link| kept.contains(&(link.0, link.1)));
-            return *copy = copy_words(trimmed.n, &Vec::from_iter(links));
+            return *copy = copy_words(0, trimmed.n, &Vec::from_iter(links));
         }
+        Fault::TrimLongAdded => kept.extend(Graph::of_all(log).links.into_iter().filter(|link| !graph.links.contains(link))),
+        Fault::TrimLongRound => {
+            let Some(all) = trimmed_words(&in_version(0, log.to_vec())) else { return };
+            let stay = Graph::of(&all).links;
+            kept.retain(|link| stay.contains(link));
+        }
+        Fault::TrimVersion => return copy[0] = head_word(version(log[0]), trimmed.n),
         Fault::PauseParts => return *copy = trimmed_words(&without_paused(log)).unwrap_or_default(),
-        Fault::TrimHead => return copy[0] = word(HEAD, 200),
+        Fault::TrimHead => return copy[0] = head_word(0, 200),
         Fault::TrimFalling => return swap_two(copy),
         _ => return,
     }
-    *copy = copy_words(trimmed.n, &older(&Graph::new(trimmed.n, kept).links));
+    *copy = copy_words(0, trimmed.n, &older(&Graph::new(trimmed.n, kept).links));
 }
 
 /// Whether other links lead from the first episode to the second in no more minutes.
@@ -629,16 +822,7 @@ fn different<T: Ord>(items: impl Iterator<Item = T>) -> usize {
 
 /// The different links that words give, whatever they are.
 fn so_far(words: &[u32]) -> BTreeSet<Link> {
-    let mut from = 0;
-    let mut links = BTreeSet::new();
-    for &given in words {
-        match kind(given) {
-            FROM => from = number(given),
-            TO => drop(links.insert((from, episode(given)))),
-            _ => {}
-        }
-    }
-    links
+    heard(words).into_iter().map(|(from, to, _)| (from, to)).collect()
 }
 
 /// The links of a log with the group that each stands in.
@@ -696,15 +880,20 @@ fn altered_count(fault: Fault, log: &[u32], kept: &mut BTreeSet<Link>) -> Option
 
 impl Services for Faulty {
     fn read(&mut self, door: Door, log: &mut Lent) -> ReadAnswer {
-        let mut answer = self.misread(log, |log| Library.read(door, log));
+        let mut answer = self.misread(Service::Read, log, |log| Library.read(door, log));
         (answer.number, answer.place) = self.refusal(log.lent(), answer.number, answer.place);
         let words = log.lent();
         match self.0 {
             Fault::EndBelieved if answer.number == 10 && kind(words[answer.place]) == END => {
-                let (episodes, links) = (number(words[0]), number(words[answer.place]));
+                let (episodes, links) = (episodes(words[0]), number(words[answer.place]));
                 answer = ReadAnswer { number: 0, place: 0, episodes, links };
             }
-            Fault::RepeatsOnce if answer.number == 0 => answer.links = Graph::of(words).links.len(),
+            Fault::ReadHead if answer.number == 0 => answer.episodes = number(words[0]),
+            Fault::ReadNoLong if answer.number == 0 => answer.links = to_words_counted(words),
+            Fault::EightNoLong if answer.number == 8 && to_words_counted(words) <= 4_096 => {
+                answer = ReadAnswer { number: 0, place: 0, episodes: episodes(words[0]), links: to_words(words) };
+            }
+            Fault::RepeatsOnce if answer.number == 0 => answer.links = so_far(words).len(),
             Fault::LogChanged => changed(log.lent_mut(), 1),
             _ => {}
         }
@@ -712,7 +901,7 @@ impl Services for Faulty {
     }
 
     fn links(&mut self, door: Door, log: &mut Lent) -> Answer {
-        let mut answer = self.misread(log, |log| Library.links(door, log));
+        let mut answer = self.misread(Service::Links, log, |log| Library.links(door, log));
         (answer.number, answer.value) = self.refusal(log.lent(), answer.number, answer.value);
         let words = log.lent();
         let last = words.len().saturating_sub(1);
@@ -742,11 +931,11 @@ impl Services for Faulty {
     }
 
     fn report(&mut self, door: Door, log: &mut Lent, out: &mut Lent, work: &mut Lent) -> Answer {
-        let mut answer = self.misread(log, |log| Library.report(door, log, out, work));
+        let mut answer = self.misread(Service::Report, log, |log| Library.report(door, log, out, work));
         assert!(self.0 != Fault::Panics || answer.number != 13, "a fault");
         self.buffers(answer, log, out, work);
         (answer.number, answer.value) = self.refusal(log.lent(), answer.number, answer.value);
-        let need = report_need(number(log.lent().first().copied().unwrap_or(0)));
+        let need = report_need(episodes(log.lent().first().copied().unwrap_or(0)));
         match (self.0, answer.number) {
             (Fault::EndOff, 0) => out.lent_mut()[answer.value - 1] += 1,
             (Fault::CountOff, 0) => answer.value -= 1,
@@ -780,13 +969,14 @@ impl Services for Faulty {
     }
 
     fn fair_copy(&mut self, door: Door, log: &mut Lent, out: &mut Lent, work: &mut Lent) -> Answer {
-        let mut answer = self.misread(log, |log| Library.fair_copy(door, log, out, work));
+        let mut answer = self.misread(Service::FairCopy, log, |log| Library.fair_copy(door, log, out, work));
         self.buffers(answer, log, out, work);
         (answer.number, answer.value) = self.refusal(log.lent(), answer.number, answer.value);
         match (self.0, answer.number) {
             (Fault::CopyCount, 0) => answer.value += 1,
             (Fault::BehindCopy, 0) => change_at(out.lent_mut(), answer.value),
-            (Fault::CopyNeed, 11) => answer.value = 2 + 2 * Graph::of(log.lent()).links.len(),
+            (Fault::CopyNeed, 11) => answer.value = copy_need(so_far(log.lent()).len()),
+            (Fault::NeedNoLong, 11) => answer.value = copy_need(to_words_counted(log.lent())),
             (Fault::TwelveFirst, 11) if work.len() < WORK => answer = Answer { number: 12, value: WORK },
             (Fault::TwelveLength, 12) => answer.value = work.len(),
             (fault, 0) if in_order(log.lent()).is_ok() => {
@@ -802,14 +992,15 @@ impl Services for Faulty {
     }
 
     fn trimmed_copy(&mut self, door: Door, log: &mut Lent, out: &mut Lent, work: &mut Lent) -> Answer {
-        let mut answer = self.misread(log, |log| Library.trimmed_copy(door, log, out, work));
+        let mut answer = self.misread(Service::TrimmedCopy, log, |log| Library.trimmed_copy(door, log, out, work));
         self.buffers(answer, log, out, work);
         (answer.number, answer.value) = self.refusal(log.lent(), answer.number, answer.value);
         let words = log.lent();
         match (self.0, answer.number) {
             (Fault::TrimCount, 0) => answer.value += 1,
             (Fault::TrimBehind, 0) => change_at(out.lent_mut(), answer.value),
-            (Fault::TrimNeed, 11) => answer.value = copy_need(Graph::of(words).links.len()),
+            (Fault::TrimNeed, 11) => answer.value = copy_need(so_far(words).len()),
+            (Fault::TrimNeedNoLong, 11) => answer.value = copy_need(to_words_counted(words)),
             (Fault::TrimNeedOwn, 11) => {
                 if let Some(copy) = trimmed_words(words) {
                     let short = Answer { number: 11, value: copy.len() };
@@ -818,13 +1009,13 @@ impl Services for Faulty {
             }
             (Fault::TrimTenUnasked, 10) => {
                 let mut right = words.to_vec();
-                right[answer.value] = word(END, words.iter().filter(|&&given| kind(given) == TO).count());
+                right[answer.value] = word(END, to_words(words));
                 if let Some(copy) = trimmed_words(&right) {
                     answer = give_trimmed(&copy, out, work).unwrap_or(answer);
                 }
             }
             (Fault::TrimLoopCopied, 13) => {
-                let copy = copy_words(number(words[0]), &least(&noted(words)));
+                let copy = copy_words(0, episodes(words[0]), &least(&noted(words)));
                 if rewrite(out, answer.value + 1, &copy) {
                     answer = Answer { number: 0, value: copy.len() };
                 }

@@ -20,6 +20,7 @@ mod runs;
 mod services;
 mod shapes;
 mod trimmed;
+mod versions;
 mod words;
 
 use beside::Older;

@@ -5,9 +5,9 @@ use crate::checkers::{self, Shown};
 use crate::checks::Found;
 use crate::disagreement;
 use crate::random::Random;
-use crate::reference::{Refusal, Subject, WORK, bytes, report_need};
+use crate::reference::{Graph, Refusal, Subject, WORK, bytes, in_order, report_need};
 use crate::shapes;
-use crate::words::{TO, bytes as as_bytes, kind, log, number};
+use crate::words::{TO, bytes as as_bytes, episodes, in_version, kind, log, number};
 use std::io::{Read, Write};
 use std::process::{Command, Stdio};
 use std::time::Duration;
@@ -18,7 +18,7 @@ const INPUTS: usize = 400;
 const FLOOR: usize = 5;
 const MOST_INPUTS: usize = 20_000;
 /// The answers of the program: no refusal, and the refusals that it can give.
-const NUMBERS: [usize; 14] = [0, 1, 2, 3, 4, 5, 6, 7, 8, 9, 10, 13, 14, 15];
+const NUMBERS: [usize; 15] = [0, 1, 2, 3, 4, 5, 6, 7, 8, 9, 10, 13, 14, 15, 18];
 
 fn line(label: &str, figures: &[usize]) -> String {
     let figures: String = figures.iter().map(|figure| format!(" {figure}")).collect();
@@ -145,7 +145,10 @@ fn printed(path: &str, input: &[u8], piece: usize, pause: bool) -> Result<String
 /// An input for the program.
 fn input(index: usize, random: &mut Random) -> Vec<u8> {
     let lengths = [0, 1, 2, 3, 4, 5, 8, 32_771, 32_773, 32_774, 32_775, 32_776, 32_777, 32_778, 32_779, 32_780, 33_000, 200_000];
-    let full = |random: &mut Random| as_bytes(&log(200, &[(0, 199, 4_095); 4_096], 16, random));
+    let full = |random: &mut Random| {
+        let log = log(200, &[(0, 199, 4_095); 4_096], 16, random);
+        as_bytes(&in_version(random.below(2), log))
+    };
     if index == 0 {
         return as_bytes(&[0x1000_0005, 0x2000_0000, 0x3000_0001, 0x2000_0002, 0x3000_0003, 0xF000_0002]);
     }
@@ -161,9 +164,11 @@ fn input(index: usize, random: &mut Random) -> Vec<u8> {
         return bytes;
     }
     let mut bytes = as_bytes(&shapes::any(random).words);
-    match random.below(12) {
-        0 => bytes.truncate(bytes.len().saturating_sub(random.between(1, 3))),
-        1 => bytes.extend((0..random.between(1, 3)).map(|_| random.word() as u8)),
+    match (random.below(24), bytes.last_mut()) {
+        (0 | 1, _) => bytes.truncate(bytes.len().saturating_sub(random.between(1, 3))),
+        (2 | 3, _) => bytes.extend((0..random.between(1, 3)).map(|_| random.word() as u8)),
+        // The top 4 bits of the last word: it is no end.
+        (4, Some(last)) => *last &= 0x7F,
         _ => {}
     }
     bytes
@@ -172,8 +177,8 @@ fn input(index: usize, random: &mut Random) -> Vec<u8> {
 /// Runs the program at `path` on many inputs.
 pub fn check(path: &str, seed: u64) -> bool {
     let mut random = Random::new(seed);
-    let mut met = [0; 16];
-    let mut repeats = 0;
+    let mut met = [0; 19];
+    let (mut repeats, mut uncounted) = (0, 0);
     let mut count = 0;
     while count < INPUTS || (NUMBERS.iter().any(|&number| met[number] < FLOOR) && count < MOST_INPUTS) {
         let input = input(count, &mut random);
@@ -184,6 +189,7 @@ pub fn check(path: &str, seed: u64) -> bool {
         };
         let wrapped = wrapped(&input);
         repeats += usize::from(wrapped.as_ref().is_ok_and(|report| report.links < to_words(&input)));
+        uncounted += usize::from(wrapped.as_ref().is_ok_and(|report| report.links < links_heard(&input)));
         let judged = judge_wrapped(&input, &wrapped);
         match judged.and_then(|_| printed(path, &input, piece, pause)).and_then(|text| judge(&input, &text)) {
             Ok(number) => met[number as usize] += 1,
@@ -204,12 +210,12 @@ pub fn check(path: &str, seed: u64) -> bool {
     }
     println!("program: {count} inputs, no disagreement; answers by number, 0 is no refusal:");
     println!("{}", NUMBERS.map(|number| format!("{number}: {}", met[number])).join("  "));
-    println!("reports with fewer links than to words: {repeats}");
+    println!("reports with fewer links than to words: {repeats}, than links that were heard: {uncounted}");
     let missing: Vec<_> = NUMBERS.iter().filter(|&&number| met[number] < FLOOR).collect();
     if !missing.is_empty() {
         println!("met fewer than {FLOOR} times: {missing:?}");
     }
-    missing.is_empty() && repeats >= FLOOR
+    missing.is_empty() && repeats.min(uncounted) >= FLOOR
 }
 
 /// Judges the text that is stored beside the log in a file.
@@ -235,7 +241,7 @@ fn right_text(input: &[u8]) -> String {
     let (mut out, mut work) = (vec![0; report_need(200)], vec![0; WORK]);
     match (zohapy::link_count(&log), zohapy::report(&log, &mut out, &mut work)) {
         (Ok(links), zohapy::Outcome::Report(count)) => {
-            report_text(number(log[0]), links, &checkers::layout(&out[..count]).expect("a report"))
+            report_text(episodes(log[0]), links, &checkers::layout(&out[..count]).expect("a report"))
         }
         (_, zohapy::Outcome::Loop(length)) => loop_text(&checkers::loop_steps(&out[..length + 1]).expect("a loop")),
         (_, zohapy::Outcome::Refused(refusal)) => refusal_text(Refusal { number: refusal.number, place: refusal.place }),
@@ -248,11 +254,26 @@ fn to_words(input: &[u8]) -> usize {
     bytes(input).map_or(0, |words| words.iter().filter(|&&given| kind(given) == TO).count())
 }
 
+/// How many different links a log that passes has, whether they count or not.
+fn links_heard(input: &[u8]) -> usize {
+    let passed = bytes(input).ok().filter(|words| in_order(words).is_ok());
+    passed.map_or(0, |words| Graph::of_all(&words).links.len())
+}
+
+/// The text with other figures in the line of this name.
+fn with_line(text: &str, label: &str, figure: usize) -> String {
+    let other = |given: &str| if given.starts_with(label) { line(label, &[figure]) } else { given.into() };
+    text.split_inclusive('\n').map(other).collect()
+}
+
 /// Alters the text for an input.
 type Alteration = fn(String, &[u8]) -> String;
 
+/// Counts something in an input.
+type Counting = fn(&[u8]) -> usize;
+
 /// Texts with a fault: whatever is altered must be refused.
-const TEXT_FAULTS: [(&str, Alteration); 13] = [
+const TEXT_FAULTS: [(&str, Alteration); 16] = [
     ("no newline at the end", |text, _| text.trim_end().to_string()),
     ("an empty line at the end", |text, _| text + "\n"),
     ("two spaces", |text, _| text.replacen(' ', "  ", 1)),
@@ -265,10 +286,13 @@ const TEXT_FAULTS: [(&str, Alteration); 13] = [
     ("no loop line", |text, _| text.split_inclusive('\n').filter(|line| !line.starts_with("loop")).collect()),
     ("the last line missing", |text, _| text[..text.trim_end().rfind('\n').map_or(0, |end| end + 1)].to_string()),
     ("links before episodes", |text, _| text.replace("episodes", "x").replace("links", "episodes").replace('x', "links")),
-    ("to words for links", |text, input| {
-        let lines = text.split_inclusive('\n');
-        lines.map(|given| if given.starts_with("links") { line("links", &[to_words(input)]) } else { given.into() }).collect()
+    ("to words for links", |text, input| with_line(&text, "links", to_words(input))),
+    ("links that do not count in links", |text, input| with_line(&text, "links", links_heard(input))),
+    ("the version in episodes", |text, input| {
+        let head = bytes(input).ok().and_then(|words| words.first().copied());
+        with_line(&text, "episodes", head.map_or(0, number))
     }),
+    ("3 for 18", |text, _| text.replace("refused 18 at", "refused 3 at")),
 ];
 
 /// Whether each text that is right is taken and each altered one is not.
@@ -289,11 +313,15 @@ pub fn faults() -> bool {
         let tried = inputs.iter().zip(&texts).filter_map(|(input, text)| Some(judge(input, &altered(input, text)?)));
         good &= all_refused(name, tried.collect());
     }
-    let altered = |input: &Vec<u8>| {
-        let report = wrapped(input).ok().filter(|report| report.links != to_words(input))?;
-        Some(judge_wrapped(input, &Ok(Report { links: to_words(input), ..report })))
-    };
-    good & all_refused("to words for links in the wrapper's report", inputs.iter().filter_map(altered).collect())
+    let counts: [(&str, Counting); 2] = [("to words for links", to_words), ("links that do not count in links", links_heard)];
+    for (name, count) in counts {
+        let altered = |input: &Vec<u8>| {
+            let report = wrapped(input).ok().filter(|report| report.links != count(input))?;
+            Some(judge_wrapped(input, &Ok(Report { links: count(input), ..report })))
+        };
+        good &= all_refused(&format!("{name} in the wrapper's report"), inputs.iter().filter_map(altered).collect());
+    }
+    good
 }
 
 /// Whether every altered text was refused, and there was one.

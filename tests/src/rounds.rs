@@ -8,9 +8,9 @@ use crate::damage;
 use crate::random::Random;
 use crate::reference::{Subject, WORK, copy_need, in_order, noted, parts, report_need};
 use crate::services::{ReadAnswer, Services};
-use crate::shapes::{self, Linked, any_pause};
-use crate::trimmed;
-use crate::words::{LARGEST, LONGEST_PAUSE, Link, Noted, STEP, TO, kind, log, report, word};
+use crate::shapes::{self, Linked, any_pause, long_pause, short_pause};
+use crate::words::{LARGEST, LARGEST_PAUSE, LONGEST_COUNTED, Link, Noted, STEP, TO, head_word, kind, report, word};
+use crate::{trimmed, versions};
 
 /// A round of the run. All of it follows from its seed.
 pub fn round<S: Services>(caller: &mut Caller<S>, seed: u64) -> Checked<()> {
@@ -21,6 +21,9 @@ pub fn round<S: Services>(caller: &mut Caller<S>, seed: u64) -> Checked<()> {
     }
     if random.chance(1, 14) {
         return trimmed::properties(caller, random);
+    }
+    if random.chance(1, 20) {
+        return versions::properties(caller, random);
     }
     if random.chance(1, 16) {
         return made_up(caller, random);
@@ -140,8 +143,9 @@ pub fn properties<S: Services>(caller: &mut Caller<S>, random: &mut Random) -> C
     let back = Subject::new(copy.clone());
     let least: Vec<Noted> = linked.least().into_iter().map(|((from, to), pause)| (from, to, pause)).collect();
     let due = ReadAnswer { number: 0, place: 0, episodes: linked.n, links: least.len() };
-    if caller.read(&back, random)? != due || in_order(&copy).is_err() || noted(&copy) != least {
-        return differ(Check::ReadBack, "the copy has another n, other links or other pauses", &first);
+    let head = head_word(linked.version, linked.n);
+    if caller.read(&back, random)? != due || in_order(&copy).is_err() || copy[0] != head || noted(&copy) != least {
+        return differ(Check::ReadBack, "the copy has another version, another n, other links or other pauses", &first);
     }
 
     caller.counts.property(Property::CopyOfCopy);
@@ -153,8 +157,12 @@ pub fn properties<S: Services>(caller: &mut Caller<S>, random: &mut Random) -> C
     caller.counts.property(Property::Counted);
     let count = caller.links(&first, random)?;
     let most = caller.read(&first, random)?.links;
-    if count != Ok(due.links) || due.links > most {
-        let what = format!("a link count of {count:?}, with {} to words in the copy and {most} in the log", due.links);
+    let counted = linked.counted().len();
+    if count != Ok(counted) || due.links > most {
+        let what = format!(
+            "a link count of {count:?}, with {} to words in the copy, {counted} of links that count, and {most} in the log",
+            due.links
+        );
         return differ(Check::ReadCount, &what, &first);
     }
     let others = [(&same, "the same links and least pauses"), (&back, "the links of the copy")];
@@ -164,29 +172,33 @@ pub fn properties<S: Services>(caller: &mut Caller<S>, random: &mut Random) -> C
         }
     }
     caller.counts.property(Property::OtherPauses);
-    let paused = linked.links.iter().map(|&(from, to, _)| (from, to, any_pause(random))).collect();
-    let paused = Subject::new(shapes::written(&Linked { n: linked.n, links: paused }, random));
+    let paused = Subject::new(shapes::written(&other_pauses(&linked, random), random));
     if caller.links(&paused, random)? != count {
         return differ(Check::SameCount, "other pauses, and another link count", &paused);
+    }
+    if !alike(&gave, &reported(caller, &paused, random)?) {
+        return differ(Check::SameReport, "other pauses, and another report", &paused);
     }
 
     let known = |link: &Link| linked.links.iter().any(|&(from, to, _)| (from, to) == *link);
     let free = (0..8).map(|_| (random.below(linked.n.max(1)), random.below(linked.n.max(1)))).find(|link| !known(link));
     if let (Some((from, to)), true) = (free, linked.n > 0 && linked.links.len() < 4_096) {
-        caller.counts.property(Property::LinkMore);
-        let mut more = Linked { n: linked.n, links: linked.links.clone() };
-        more.links.insert(random.below(more.links.len() + 1), (from, to, any_pause(random)));
+        let pause = any_pause(random);
+        let counts = linked.joins(pause);
+        caller.counts.property(if counts { Property::LinkMore } else { Property::LongMore });
+        let mut more = linked.clone();
+        more.links.insert(random.below(more.links.len() + 1), (from, to, pause));
         let more = Subject::new(shapes::written(&more, random));
         if copied(caller, &more, random)?.is_ok_and(|other| other == copy) {
             return differ(Check::OtherCopy, "a link more, and the same copy", &more);
         }
-        if caller.links(&more, random)? != Ok(due.links + 1) {
-            return differ(Check::OtherCount, "a link more, and not one more in the link count", &more);
+        if caller.links(&more, random)? != Ok(counted + usize::from(counts)) {
+            return differ(Check::OtherCount, "a link more, and not one more in the link count if it counts", &more);
         }
     }
     if linked.n < 200 {
         caller.counts.property(Property::EpisodeMore);
-        let more = Subject::new(log(linked.n + 1, &linked.links, 2, random));
+        let more = Subject::new(shapes::written(&Linked { n: linked.n + 1, ..linked.clone() }, random));
         if copied(caller, &more, random)?.is_ok_and(|other| other == copy) {
             return differ(Check::OtherCopy, "an episode more, and the same copy", &more);
         }
@@ -194,22 +206,27 @@ pub fn properties<S: Services>(caller: &mut Caller<S>, random: &mut Random) -> C
             return differ(Check::SameCount, "an episode more, and another link count", &more);
         }
     }
-    if let Some(other) = other_pause(&linked, random) {
-        caller.counts.property(Property::OtherPause);
-        let other = Subject::new(shapes::written(&other, random));
+    if let Some(paused) = other_pause(&linked, random) {
+        let other = Subject::new(shapes::written(&paused, random));
         if copied(caller, &other, random)?.is_ok_and(|other| other == copy) {
             return differ(Check::OtherCopy, "another least pause, and the same copy", &other);
         }
-        if !alike(&gave, &reported(caller, &other, random)?) {
+        let now = paused.counted().len();
+        let same = now == counted;
+        caller.counts.property(if same { Property::OtherPause } else { Property::OverBorder });
+        if caller.links(&other, random)? != Ok(now) {
+            let check = if same { Check::SameCount } else { Check::OtherCount };
+            return differ(check, &format!("another least pause, and a link count that is not {now}"), &other);
+        }
+        if same && !alike(&gave, &reported(caller, &other, random)?) {
             return differ(Check::SameReport, "another least pause, and another report", &other);
         }
-        if caller.links(&other, random)? != count {
-            return differ(Check::SameCount, "another least pause, and another link count", &other);
-        }
-        match (trimmed::trimmed(caller, &first, random)?, trimmed::trimmed(caller, &other, random)?) {
-            (Trimmed::Loop(_), Trimmed::Loop(_)) => {}
-            (Trimmed::Copy(one), Trimmed::Copy(two)) if one == two => {}
-            _ => return differ(Check::SameTrimmed, "another least pause, and another trimmed copy", &other),
+        if same {
+            match (trimmed::trimmed(caller, &first, random)?, trimmed::trimmed(caller, &other, random)?) {
+                (Trimmed::Loop(_), Trimmed::Loop(_)) => {}
+                (Trimmed::Copy(one), Trimmed::Copy(two)) if one == two => {}
+                _ => return differ(Check::SameTrimmed, "another least pause, and another trimmed copy", &other),
+            }
         }
     }
 
@@ -226,8 +243,18 @@ pub fn properties<S: Services>(caller: &mut Caller<S>, random: &mut Random) -> C
     Ok(())
 }
 
+/// The links with other pauses, so that the same ones count: any in version 0, and in version 1 on the same side of 360.
+fn other_pauses(linked: &Linked, random: &mut Random) -> Linked {
+    let mut other = |pause: usize| match (linked.version, pause > LONGEST_COUNTED) {
+        (0, _) => any_pause(random),
+        (_, true) => long_pause(random),
+        (_, false) => short_pause(random),
+    };
+    Linked { links: linked.links.iter().map(|&(from, to, pause)| (from, to, other(pause))).collect(), ..*linked }
+}
+
 /// Whether two calls gave the same width and apart set, or both a loop.
-fn alike(one: &Gave, other: &Gave) -> bool {
+pub fn alike(one: &Gave, other: &Gave) -> bool {
     match (one, other) {
         (Gave::Loop(_), Gave::Loop(_)) => true,
         (Gave::Report(one, _), Gave::Report(other, _)) => (one.width, &one.apart) == (other.width, &other.apart),
@@ -240,8 +267,8 @@ pub fn again(linked: &Linked, random: &mut Random) -> Linked {
     let least = linked.least();
     let longer = |pause: usize, random: &mut Random| match random.below(4) {
         0 => pause,
-        1 => random.between(pause, LONGEST_PAUSE.min(pause + 3)),
-        _ => random.between(pause, LONGEST_PAUSE),
+        1 => random.between(pause, LARGEST_PAUSE.min(pause + 3)),
+        _ => random.between(pause, LARGEST_PAUSE),
     };
     // Where a to word has not the least pause, it can be left out, or have another pause.
     let mut links = Vec::new();
@@ -261,7 +288,7 @@ pub fn again(linked: &Linked, random: &mut Random) -> Linked {
         }
         random.shuffle(&mut links);
     }
-    Linked { n: linked.n, links }
+    Linked { links, ..*linked }
 }
 
 /// The same set of links, one of them with another least pause: its to words below a longer pause are raised to it, or
@@ -274,15 +301,15 @@ fn other_pause(linked: &Linked, random: &mut Random) -> Option<Linked> {
     let at = random.below(links.len());
     let (from, to, _) = links[at];
     let least = linked.least()[&(from, to)];
-    if least == 0 || (least < LONGEST_PAUSE && random.chance(1, 2)) {
-        let longer = if random.chance(1, 2) { least + 1 } else { random.between(least + 1, LONGEST_PAUSE) };
+    if least == 0 || (least < LARGEST_PAUSE && random.chance(1, 2)) {
+        let longer = if random.chance(1, 2) { least + 1 } else { random.between(least + 1, LARGEST_PAUSE) };
         for link in links.iter_mut().filter(|link| (link.0, link.1) == (from, to)) {
             link.2 = link.2.max(longer);
         }
     } else {
         links[at].2 = if random.chance(1, 2) { least - 1 } else { random.below(least) };
     }
-    Some(Linked { n: linked.n, links })
+    Some(Linked { links, ..*linked })
 }
 
 pub fn copied<S: Services>(caller: &mut Caller<S>, subject: &Subject, random: &mut Random) -> Checked<Copied> {

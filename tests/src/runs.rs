@@ -8,7 +8,7 @@ use crate::counts::{Counts, grouped};
 use crate::faults::{FAULTS, Fault, Faulty};
 use crate::random::{Random, round_seed};
 use crate::services::{Library, Services};
-use crate::{cases, disagreement, program, rounds, trimmed};
+use crate::{cases, disagreement, program, rounds, trimmed, versions};
 use std::panic::{AssertUnwindSafe, catch_unwind};
 use std::sync::atomic::{AtomicBool, Ordering};
 use std::time::Instant;
@@ -96,6 +96,9 @@ fn checks_of<S: Services>(wanted: &Wanted, services: impl Fn() -> S + Sync) -> b
         if !older.counts_links() {
             println!("the older build has no link count, so these calls were not compared");
         }
+        if !older.has_versions() {
+            println!("the older build has no versions, so calls on logs of another version than 0 were not compared");
+        }
     }
     if wanted.calls < DEFAULT_CALLS {
         println!("fewer than {} calls: it is not asked how often everything was met", grouped(DEFAULT_CALLS));
@@ -170,6 +173,9 @@ fn bare_catch(fault: Fault) -> Vec<Check> {
             caught.extend(names(&found));
         }
         if let Err(found) = guarded(&mut caller, |caller| trimmed::properties(caller, &mut Random::new(seed))) {
+            caught.extend(names(&found));
+        }
+        if let Err(found) = guarded(&mut caller, |caller| versions::properties(caller, &mut Random::new(seed))) {
             caught.extend(names(&found));
         }
     }

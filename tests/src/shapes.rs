@@ -3,7 +3,8 @@
 use crate::counts::{Damage, Shape};
 use crate::damage;
 use crate::random::Random;
-use crate::words::{END, FROM, HEAD, LARGEST, LONGEST_PAUSE, Link, Noted, TO, kind, log, pause, to_word, word};
+use crate::words::{END, FROM, HEAD, LARGEST_PAUSE, LONGEST_COUNTED, Link, Noted, TO};
+use crate::words::{head_word, in_version, kind, log, pause, to_word, word};
 use std::collections::BTreeMap;
 
 /// A log, its shape, and the damage that was done to it.
@@ -13,8 +14,10 @@ pub struct Made {
     pub damage: Vec<Damage>,
 }
 
-/// Links that join episodes below n, with pauses and repeats, in the order in which a log gives them.
+/// Links between episodes below n, with pauses and repeats, in the order in which a log of this version gives them.
+#[derive(Clone)]
 pub struct Linked {
+    pub version: usize,
     pub n: usize,
     pub links: Vec<Noted>,
 }
@@ -28,6 +31,16 @@ impl Linked {
             *known = pause.min(*known);
         }
         least
+    }
+
+    /// Whether a link with this least pause counts.
+    pub fn joins(&self, least: usize) -> bool {
+        self.version == 0 || least <= LONGEST_COUNTED
+    }
+
+    /// The links that count, rising.
+    pub fn counted(&self) -> Vec<Link> {
+        self.least().into_iter().filter(|link| self.joins(link.1)).map(|link| link.0).collect()
     }
 }
 
@@ -47,8 +60,8 @@ pub fn any(random: &mut Random) -> Made {
         (Shape::Repeats, 60),
         (Shape::Loops, 70),
         (Shape::Full, 50),
-        (Shape::Ceilings, 50),
-        (Shape::Damaged, 180),
+        (Shape::Ceilings, 70),
+        (Shape::Damaged, 210),
         (Shape::Scrap, 80),
     ]);
     let mut damage = Vec::new();
@@ -91,7 +104,7 @@ pub fn written(linked: &Linked, random: &mut Random) -> Vec<u32> {
         }
     }
     let splits = *random.pick(&[0, 0, 4, 16]);
-    log(linked.n, &links, splits, random)
+    in_version(linked.version, log(linked.n, &links, splits, random))
 }
 
 fn size(random: &mut Random) -> usize {
@@ -115,7 +128,8 @@ fn forward(n: usize, count: usize, random: &mut Random) -> Vec<Link> {
     (0..count).map(|_| pair(random)).collect()
 }
 
-fn linked(shape: Shape, random: &mut Random) -> Linked {
+/// Links of a shape.
+pub fn linked(shape: Shape, random: &mut Random) -> Linked {
     let n = match shape {
         Shape::Tiny => random.between(0, 4),
         Shape::Full => MOST_EPISODES,
@@ -156,30 +170,61 @@ fn linked(shape: Shape, random: &mut Random) -> Linked {
             links.push(*random.pick(&links));
         }
     }
+    let mut links = noted(&links, random);
+    // Every loop has a link that does not lead to a higher place: with a long pause it closes none in version 1.
+    if random.chance(1, 2) {
+        for link in links.iter_mut().filter(|link| link.0 >= link.1) {
+            link.2 = long_pause(random);
+        }
+    }
     // The episodes get other names in most logs, so that their numbers say nothing of their order.
     if n > 0 && random.chance(3, 4) {
         let mut names: Vec<usize> = (0..n).collect();
         random.shuffle(&mut names);
-        links = links.iter().map(|&(from, to)| (names[from], names[to])).collect();
+        links = links.iter().map(|&(from, to, pause)| (names[from], names[to], pause)).collect();
     }
-    Linked { n, links: noted(&links, random) }
+    Linked { version: random.below(2), n, links }
 }
 
-/// Any pause; the shortest, the longest, and those with one bit are met often.
+/// Pauses at both ends and around the longest with which a link of version 1 counts.
+pub const BORDERS: [usize; 6] = [0, 359, 360, 361, 400, LARGEST_PAUSE];
+
+/// A pause with which a link of version 1 counts.
+pub fn short_pause(random: &mut Random) -> usize {
+    if random.chance(1, 4) { *random.pick(&BORDERS[..3]) } else { random.between(0, LONGEST_COUNTED) }
+}
+
+/// A pause with which it does not count.
+pub fn long_pause(random: &mut Random) -> usize {
+    if random.chance(1, 4) { *random.pick(&BORDERS[3..]) } else { random.between(LONGEST_COUNTED + 1, LARGEST_PAUSE) }
+}
+
+/// Any pause; short ones and those with one bit are met often.
 pub fn any_pause(random: &mut Random) -> usize {
     match random.below(8) {
-        0 => 0,
-        1 => LONGEST_PAUSE,
-        2 => 1 << random.below(12),
-        _ => random.between(0, LONGEST_PAUSE),
+        0 => *random.pick(&BORDERS),
+        1 => 1 << random.below(12),
+        2 | 3 => short_pause(random),
+        4 => long_pause(random),
+        5 => *random.pick(&[0, LARGEST_PAUSE]),
+        _ => random.between(0, LARGEST_PAUSE),
     }
 }
 
-/// The links, each with a pause: none at all, as in older logs, a few minutes, or any.
+/// How a pause is chosen.
+type Choice = fn(&mut Random) -> usize;
+
+/// The links, each with a pause: none at all, as in older logs, a few minutes, any, around the border, or most short.
 fn paused(links: &[Link], random: &mut Random) -> Vec<Noted> {
-    let most = random.weighted(&[(0, 3), (3, 2), (LONGEST_PAUSE, 3)]);
-    let mut pause = || if most == LONGEST_PAUSE { any_pause(random) } else { random.between(0, most) };
-    links.iter().map(|&(from, to)| (from, to, pause())).collect()
+    let kinds: [(Choice, usize); 5] = [
+        (|_| 0, 5),
+        (|random| random.between(0, 3), 3),
+        (any_pause, 4),
+        (|random| *random.pick(&BORDERS), 2),
+        (|random| if random.chance(1, 6) { long_pause(random) } else { short_pause(random) }, 5),
+    ];
+    let pause = random.weighted(&kinds);
+    links.iter().map(|&(from, to)| (from, to, pause(random))).collect()
 }
 
 /// The links with pauses. In one of four logs some links are given again, with other pauses, as far as there is room.
@@ -313,13 +358,18 @@ fn full(random: &mut Random) -> Vec<Link> {
     }
 }
 
+/// More episodes than a log has, and the most that a head can give.
+pub const MANY: [usize; 7] = [201, 202, 255, 256, 65_536, 65_537, (1 << 24) - 1];
+
 /// Logs with 199 to 202 episodes or more, or with 4,095 to words or more.
 fn ceilings(random: &mut Random) -> Vec<u32> {
+    let any = random.below(16);
+    let version = random.weighted(&[(0, 4), (1, 4), (any, 1)]);
     if random.chance(1, 2) {
-        let n = *random.pick(&[199, 200, 201, 202, 255, 256, LARGEST as usize]);
+        let n = if random.chance(1, 3) { random.between(199, 200) } else { *random.pick(&MANY) };
         let count = random.between(0, 20);
         let links = forward(n.min(300), count, random);
-        return log(n, &noted(&links, random), 4, random);
+        return in_version(version, log(n, &noted(&links, random), 4, random));
     }
     let n = random.between(1, MOST_EPISODES);
     let count = *random.pick(&[4_095, 4_096, 4_097, 4_097, 4_097, 4_098, 4_400]);
@@ -336,7 +386,7 @@ fn ceilings(random: &mut Random) -> Vec<u32> {
             kind => word(kind, high),
         };
     }
-    words
+    in_version(version, words)
 }
 
 /// A few words, most of them of the kinds that a log has.
@@ -351,11 +401,14 @@ fn scrap(random: &mut Random) -> Vec<u32> {
         .collect();
     if let [first, .., last] = &mut words[..] {
         if random.chance(9, 10) {
-            *first = word(HEAD, random.between(0, 4));
+            let any = random.below(16);
+            *first = head_word(random.weighted(&[(0, 6), (1, 3), (any, 1)]), random.between(0, 4));
         }
         if random.chance(3, 4) {
             *last = word(END, random.below(5));
         }
+    } else if let [only] = &mut words[..] {
+        *only = head_word(random.below(16), random.below(4));
     }
     words
 }

@@ -9,8 +9,8 @@ use crate::random::Random;
 use crate::reference::{Graph, Subject, in_order};
 use crate::rounds::{again, copied, copy_lengths, reported};
 use crate::services::{ReadAnswer, Services};
-use crate::shapes::{self, Linked};
-use crate::words::{Link, Noted, hex, log};
+use crate::shapes::{self, Linked, long_pause, short_pause};
+use crate::words::{LONGEST_COUNTED, Link, Noted, hex};
 
 /// A log that passes with its ways, and what the first calls on it gave.
 struct Given {
@@ -92,7 +92,7 @@ fn same_outcome<S: Services>(
 }
 
 /// A log in a message, if it is short.
-fn in_words(log: &Subject) -> String {
+pub fn in_words(log: &Subject) -> String {
     if log.words.len() <= 64 { hex(&log.words) } else { format!("a log of {} words", log.words.len()) }
 }
 
@@ -142,11 +142,11 @@ impl Given {
         (0..self.graph.n).any(|between| self.ways[from][between] && self.ways[between][to])
     }
 
-    /// Other links with the same ways: some that are implied left out, some of the ways added, repeats, and other
-    /// pauses.
+    /// Other links with the same ways, in any version: some that are implied left out, some of the ways added, repeats, and
+    /// other pauses. In version 1 all these count, and some are added between any episodes that do not.
     fn with_same_ways(&self, random: &mut Random) -> Linked {
-        let n = self.graph.n;
-        let given = self.linked.links.iter().map(|&(from, to, _)| (from, to));
+        let (n, version) = (self.graph.n, random.below(2));
+        let given = self.graph.links.iter().copied();
         let mut links: Vec<Link> = given.filter(|&link| !self.implied(link) || random.chance(1, 2)).collect();
         for _ in 0..random.between(0, 20).min(4_096 - links.len()) {
             let from = random.below(n.max(1));
@@ -155,10 +155,22 @@ impl Given {
                 links.push((from, *random.pick(&ends)));
             }
         }
-        again(&Linked { n, links: shapes::noted(&links, random) }, random)
+        let mut noted = shapes::noted(&links, random);
+        if version == 1 {
+            for link in noted.iter_mut().filter(|link| link.2 > LONGEST_COUNTED) {
+                link.2 = short_pause(random);
+            }
+            for _ in 0..random.between(0, 8).min(if n == 0 { 0 } else { 4_096 - noted.len() }) {
+                let link = (random.below(n), random.below(n));
+                if !links.contains(&link) {
+                    noted.push((link.0, link.1, long_pause(random)));
+                }
+            }
+        }
+        again(&Linked { version, n, links: noted }, random)
     }
 
-    /// The log with one link more, between episodes of which none has a way to the other.
+    /// The log with one link more that counts, between episodes of which none has a way to the other.
     fn with_way_more(&self, random: &mut Random) -> Option<Linked> {
         let n = self.graph.n;
         if n == 0 || self.linked.links.len() == 4_096 {
@@ -167,20 +179,26 @@ impl Given {
         let mut tries = (0..16).map(|_| (random.below(n), random.below(n)));
         let (from, to) = tries.find(|&(from, to)| from != to && !self.ways[from][to] && !self.ways[to][from])?;
         let mut links = self.linked.links.clone();
-        links.insert(random.below(links.len() + 1), (from, to, shapes::any_pause(random)));
-        Some(Linked { n, links })
+        let pause = if self.linked.version == 0 { shapes::any_pause(random) } else { short_pause(random) };
+        links.insert(random.below(links.len() + 1), (from, to, pause));
+        Some(Linked { links, ..self.linked })
     }
 
-    /// The log without one of the links that are not implied.
+    /// The log without one of the links that are not implied; in version 1 it can be there with long pauses, and not count.
     fn with_way_fewer(&self, random: &mut Random) -> Option<Linked> {
         let stay: Vec<Link> = self.graph.links.iter().copied().filter(|&link| !self.implied(link)).collect();
         if stay.is_empty() {
             return None;
         }
         let out = *random.pick(&stay);
-        let other = |&(from, to, _): &Noted| (from, to) != out;
-        let links = self.linked.links.iter().copied().filter(other).collect();
-        Some(Linked { n: self.graph.n, links })
+        let is_out = |link: &Noted| (link.0, link.1) == out;
+        let mut links = self.linked.links.clone();
+        if self.linked.version == 1 && random.chance(1, 2) {
+            links.iter_mut().filter(|link| is_out(link)).for_each(|link| link.2 = long_pause(random));
+        } else {
+            links.retain(|link| !is_out(link));
+        }
+        Some(Linked { links, ..self.linked })
     }
 }
 
@@ -191,6 +209,9 @@ fn same_ways<S: Services>(caller: &mut Caller<S>, given: &Given, found: &mut Fou
     let graph = Graph::of(&same.words);
     if graph.links != given.graph.links {
         caller.counts.property(Property::SameWays);
+    }
+    if linked.version != given.linked.version {
+        caller.counts.property(Property::TrimmedVersions);
     }
     let other = trimmed(caller, &same, random)?;
     found.ask(Check::SameTrimmed, other == Trimmed::Copy(given.copy.clone()), || {
@@ -210,7 +231,8 @@ fn other_ways<S: Services>(caller: &mut Caller<S>, given: &Given, found: &mut Fo
     let n = given.graph.n;
     let more = given.with_way_more(random).map(|linked| (Property::WayMore, shapes::written(&linked, random)));
     let fewer = given.with_way_fewer(random).map(|linked| (Property::WayFewer, shapes::written(&linked, random)));
-    let episode = (n < 200).then(|| (Property::TrimmedEpisode, log(n + 1, &given.linked.links, 2, random)));
+    let longer = Linked { n: n + 1, ..given.linked.clone() };
+    let episode = (n < 200).then(|| (Property::TrimmedEpisode, shapes::written(&longer, random)));
     for (property, words) in [more, fewer, episode].into_iter().flatten() {
         caller.counts.property(property);
         let subject = Subject::new(words);

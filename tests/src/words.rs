@@ -18,8 +18,14 @@ pub const LARGEST: u32 = 0x0FFF_FFFF;
 /// How many later episodes a to word can name: its bits 0 to 15.
 const EPISODES: usize = 65_536;
 
-/// The longest pause that a to word can note, in minutes: its bits 16 to 27.
-pub const LONGEST_PAUSE: usize = 4_095;
+/// The largest pause that a to word can note, in minutes: its bits 16 to 27.
+pub const LARGEST_PAUSE: usize = 4_095;
+
+/// The longest pause with which a link of version 1 counts, in minutes.
+pub const LONGEST_COUNTED: usize = 360;
+
+/// How many counts of episodes a head can give: its bits 0 to 23. Its bits 24 to 27 are the version.
+const HEADS: usize = 1 << 24;
 
 /// A link: from the first episode to the second.
 pub type Link = (usize, usize);
@@ -54,6 +60,27 @@ pub fn pause(to: u32) -> usize {
     number(to) / EPISODES
 }
 
+/// A head: the version, and how many episodes there are.
+pub fn head_word(version: usize, n: usize) -> u32 {
+    word(HEAD, version * HEADS + n)
+}
+
+/// The version in a head.
+pub fn version(head: u32) -> usize {
+    number(head) / HEADS
+}
+
+/// How many episodes a head gives.
+pub fn episodes(head: u32) -> usize {
+    number(head) % HEADS
+}
+
+/// The log with this version in its head.
+pub fn in_version(version: usize, mut log: Vec<u32>) -> Vec<u32> {
+    log[0] = head_word(version, episodes(log[0]));
+    log
+}
+
 /// The links as an older log gives them: without a pause.
 pub fn older(links: &[Link]) -> Vec<Noted> {
     links.iter().map(|&(from, to)| (from, to, 0)).collect()
@@ -69,10 +96,10 @@ pub fn hex(words: &[u32]) -> String {
     words.iter().map(|word| format!("{word:08X}")).collect::<Vec<_>>().join(" ")
 }
 
-/// A log with the links in the order given. A link goes into the group before it where it can, except in `splits` of
-/// 16 cases.
+/// A log of version 0 with the links in the order given. A link goes into the group before it where it can, except in
+/// `splits` of 16 cases.
 pub fn log(n: usize, links: &[Noted], splits: usize, random: &mut Random) -> Vec<u32> {
-    let mut words = vec![word(HEAD, n)];
+    let mut words = vec![head_word(0, n)];
     let mut group = None;
     for &(from, to, pause) in links {
         if group != Some(from) || (splits > 0 && random.chance(splits, 16)) {

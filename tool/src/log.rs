@@ -1,16 +1,17 @@
-//! A log as its episodes and links, and its text form: a line `episodes N`, then a line `A-B` or `A-B M` for each link, M being
-//! its pause in minutes. A link that is given again is kept again.
+//! A log as its version, episodes and links, and its text form: a line `version V` unless the version is 0, a line `episodes N`,
+//! then a line `A-B` or `A-B M` for each link, M being its pause in minutes. A link that is given again is kept again.
 
 use std::fmt;
 
-use zohapy::{Link, Refusal, links, number, to_word};
+use zohapy::{Link, Refusal, head_episodes, head_version, head_word, links, to_word};
 
 /// The numbers that a word has room for are below this.
 const NUMBERS: u32 = 1 << 28;
 
-/// A log: how many episodes it has, and its links in order, repeats too.
+/// A log: its version, how many episodes it has, and its links in order, repeats too.
 #[derive(Clone, Debug, PartialEq, Eq)]
 pub struct Log {
+    pub version: u32,
     pub episodes: u32,
     pub links: Vec<Link>,
 }
@@ -25,6 +26,7 @@ pub struct TextError {
 /// What a line of the text form holds.
 #[derive(Clone, Copy, Debug, PartialEq, Eq)]
 pub enum Expected {
+    Version,
     Episodes,
     Link,
     NoMoreLinks,
@@ -34,7 +36,8 @@ impl fmt::Display for TextError {
     fn fmt(&self, f: &mut fmt::Formatter<'_>) -> fmt::Result {
         write!(f, "line {}: expected ", self.line)?;
         match self.expected {
-            Expected::Episodes => write!(f, "episodes N, with a number below {NUMBERS}"),
+            Expected::Version => write!(f, "version V, with a number below 16, at most once and before the links"),
+            Expected::Episodes => write!(f, "episodes N, with a number below 16777216"),
             Expected::Link => {
                 write!(f, "a link A-B or A-B M, with A below {NUMBERS}, B below 65536 and its pause of M minutes below 4096")
             }
@@ -44,10 +47,10 @@ impl fmt::Display for TextError {
 }
 
 impl Log {
-    /// The log of a text form. Blank lines and lines that start with `#` are passed over. Whether the library would pass the log
-    /// is not asked.
+    /// The log of a text form. The version may stand before or behind the episodes; without it, it is 0. Blank lines and lines
+    /// that start with `#` are passed over. Whether the library would pass the log is not asked.
     pub fn from_text(text: &str) -> Result<Log, TextError> {
-        let mut log: Option<Log> = None;
+        let (mut version, mut episodes, mut links) = (None, None, Vec::new());
         let mut last = 0;
         for (line, content) in text.lines().map(str::trim).enumerate() {
             last = line;
@@ -55,31 +58,32 @@ impl Log {
                 continue;
             }
             let error = |expected| TextError { line: line + 1, expected };
-            match &mut log {
-                None => {
-                    let episodes = episodes_of(content).ok_or(error(Expected::Episodes))?;
-                    log = Some(Log { episodes, links: Vec::new() });
-                }
-                Some(log) => {
-                    log.links.push(link_of(content).ok_or(error(Expected::Link))?);
-                    if log.links.len() >= NUMBERS as usize {
-                        return Err(error(Expected::NoMoreLinks));
-                    }
+            if let Some(digits) = behind(content, "version") {
+                let free = version.is_none() && links.is_empty();
+                let given = number_of(digits).filter(|given| free && head_word(*given, 0).is_some());
+                version = Some(given.ok_or(error(Expected::Version))?);
+            } else if episodes.is_none() {
+                episodes = Some(episodes_of(content).ok_or(error(Expected::Episodes))?);
+            } else {
+                links.push(link_of(content).ok_or(error(Expected::Link))?);
+                if links.len() >= NUMBERS as usize {
+                    return Err(error(Expected::NoMoreLinks));
                 }
             }
         }
-        log.ok_or(TextError { line: last + 1, expected: Expected::Episodes })
+        let episodes = episodes.ok_or(TextError { line: last + 1, expected: Expected::Episodes })?;
+        Ok(Log { version: version.unwrap_or(0), episodes, links })
     }
 
     /// The log of words that pass the reading.
     pub fn from_words(words: &[u32]) -> Result<Log, Refusal> {
         let links = links(words)?;
-        Ok(Log { episodes: number(words[0]), links })
+        Ok(Log { version: head_version(words[0]), episodes: head_episodes(words[0]), links })
     }
 
     /// The words of the log. Links that follow each other and leave the same episode share a from word.
     pub fn words(&self) -> Vec<u32> {
-        let mut words = vec![0x1000_0000 | self.episodes];
+        let mut words = vec![head_word(self.version, self.episodes).expect("a head has room for the figures")];
         for group in self.links.chunk_by(|a, b| a.from == b.from) {
             words.push(0x2000_0000 | group[0].from);
             words.extend(group.iter().map(|link| to_word(link.to, link.pause).expect("a to word has room for the link")));
@@ -89,9 +93,12 @@ impl Log {
     }
 }
 
-/// The text form of the log. A pause of 0 is left out.
+/// The text form of the log. A version of 0 and a pause of 0 are left out.
 impl fmt::Display for Log {
     fn fmt(&self, f: &mut fmt::Formatter<'_>) -> fmt::Result {
+        if self.version != 0 {
+            writeln!(f, "version {}", self.version)?;
+        }
         writeln!(f, "episodes {}", self.episodes)?;
         self.links.iter().try_for_each(|Link { from, to, pause }| match pause {
             0 => writeln!(f, "{from}-{to}"),
@@ -100,10 +107,14 @@ impl fmt::Display for Log {
     }
 }
 
+/// What stands behind the name with which a line begins.
+fn behind<'a>(line: &'a str, name: &str) -> Option<&'a str> {
+    line.strip_prefix(name).filter(|rest| rest.is_empty() || rest.starts_with(char::is_whitespace))
+}
+
 /// The number of a line `episodes N`.
 fn episodes_of(line: &str) -> Option<u32> {
-    let (name, number) = line.split_once(char::is_whitespace)?;
-    if name == "episodes" { number_of(number) } else { None }
+    behind(line, "episodes").and_then(number_of).filter(|episodes| head_word(0, *episodes).is_some())
 }
 
 /// The link of a line `A-B` or `A-B M`.
@@ -136,6 +147,10 @@ mod tests {
     const PAUSED: [u32; 8] =
         [0x1000_0005, 0x2000_0000, 0x302D_0001, 0x3000_0002, 0x3FFF_0001, 0x2000_0003, 0x3001_0004, 0xF000_0004];
 
+    /// A log of version 1.
+    const VERSION_1_TEXT: &str = "version 1\nepisodes 3\n0-1 361\n1-2\n";
+    const VERSION_1: [u32; 6] = [0x1100_0003, 0x2000_0000, 0x3169_0001, 0x2000_0001, 0x3000_0002, 0xF000_0002];
+
     fn error(text: &str) -> (usize, Expected) {
         let error = Log::from_text(text).expect_err("the text is no text form");
         (error.line, error.expected)
@@ -151,6 +166,46 @@ mod tests {
     fn pauses_go_both_ways() {
         assert_eq!(Log::from_text(PAUSED_TEXT).map(|log| log.words()), Ok(PAUSED.to_vec()));
         assert_eq!(Log::from_words(&PAUSED).map(|log| log.to_string()), Ok(PAUSED_TEXT.to_string()));
+    }
+
+    #[test]
+    fn the_version_goes_both_ways() {
+        assert_eq!(Log::from_text(VERSION_1_TEXT).map(|log| log.words()), Ok(VERSION_1.to_vec()));
+        assert_eq!(Log::from_words(&VERSION_1).map(|log| log.to_string()), Ok(VERSION_1_TEXT.to_string()));
+    }
+
+    #[test]
+    fn the_version_may_stand_behind_the_episodes() {
+        for text in ["episodes 3\nversion 1\n0-1 361\n1-2\n", "# one\n version \t 01 \n\nepisodes 3\n# links\n0-1 361\n1-2"] {
+            assert_eq!(Log::from_text(text), Log::from_text(VERSION_1_TEXT), "{text:?}");
+        }
+        assert_eq!(Log::from_text("version 1\nepisodes 0").map(|log| log.words()), Ok(vec![0x1100_0000, 0xF000_0000]));
+        assert_eq!(Log::from_text("episodes 0\nversion 1").map(|log| log.words()), Ok(vec![0x1100_0000, 0xF000_0000]));
+    }
+
+    #[test]
+    fn a_version_of_0_can_be_given_and_is_not_written() {
+        let log = Log::from_text("version 0\nepisodes 5\n0-1\n2-3\n").expect("a text form");
+        assert_eq!(log.words(), WHOLE);
+        assert_eq!(log.to_string(), WHOLE_TEXT);
+    }
+
+    #[test]
+    fn the_version_is_given_once_and_before_the_links() {
+        let wrong = ["version", "version 16", "version -1", "version +1", "version 1 2", "version one", "version 4294967296"];
+        for line in wrong {
+            assert_eq!(error(&format!("{line}\nepisodes 5\n")), (1, Expected::Version), "{line:?}");
+            assert_eq!(error(&format!("episodes 5\n{line}\n")), (2, Expected::Version), "{line:?}");
+        }
+        assert_eq!(error("version 1\nversion 1\nepisodes 5\n"), (2, Expected::Version));
+        assert_eq!(error("version 0\nepisodes 5\nversion 0\n"), (3, Expected::Version));
+        assert_eq!(error("episodes 5\n0-1\nversion 1\n"), (3, Expected::Version));
+        assert_eq!(error("version 1\nepisodes 5\n0-1\nversion 1\n"), (4, Expected::Version));
+        // Other words are no version.
+        assert_eq!(error("version1\nepisodes 5\n"), (1, Expected::Episodes));
+        assert_eq!(error("episodes 5\nVersion 1\n"), (2, Expected::Link));
+        assert_eq!(error("version 1\n"), (1, Expected::Episodes));
+        assert_eq!(error("version 1\n0-1\n"), (2, Expected::Episodes));
     }
 
     #[test]
@@ -177,18 +232,22 @@ mod tests {
 
     #[test]
     fn a_log_that_the_library_refuses_has_bytes_too() {
-        let log = Log::from_text("episodes 268435455\n268435455-65535 4095\n").expect("the numbers have room");
+        let log = Log::from_text("version 15\nepisodes 16777215\n268435455-65535 4095\n").expect("the numbers have room");
         assert_eq!(log.words(), [0x1FFF_FFFF, 0x2FFF_FFFF, 0x3FFF_FFFF, 0xF000_0001]);
+        assert_eq!(Log::from_words(&log.words()), Err(Refusal { number: 18, place: 0 }));
+        let log = Log::from_text("episodes 16777215\n").expect("the number has room");
+        assert_eq!(log.words(), [0x10FF_FFFF, 0xF000_0000]);
         assert_eq!(Log::from_words(&log.words()), Err(Refusal { number: 3, place: 0 }));
     }
 
     #[test]
-    fn the_first_line_gives_the_episodes() {
+    fn the_episodes_come_before_the_links() {
         for text in
             ["", "\n", "0-1\n", "episode 5\n", "episodes\n", "episodes5\n", "episodes -5\n", "episodes +5\n", "episodes 5 6\n"]
         {
             assert_eq!(error(text), (1, Expected::Episodes), "{text:?}");
         }
+        assert_eq!(error("episodes 16777216"), (1, Expected::Episodes));
         assert_eq!(error("episodes 268435456"), (1, Expected::Episodes));
         assert_eq!(error("episodes 99999999999999999999"), (1, Expected::Episodes));
         assert_eq!(error("# only this\n\n"), (2, Expected::Episodes));
@@ -208,7 +267,11 @@ mod tests {
     #[test]
     fn an_error_names_the_line_and_what_is_expected() {
         let message = |text| Log::from_text(text).expect_err("the text is no text form").to_string();
-        assert_eq!(message("links 5"), "line 1: expected episodes N, with a number below 268435456");
+        assert_eq!(message("links 5"), "line 1: expected episodes N, with a number below 16777216");
+        assert_eq!(
+            message("episodes 5\nversion 16"),
+            "line 2: expected version V, with a number below 16, at most once and before the links"
+        );
         assert_eq!(
             message("episodes 5\n0_1"),
             "line 2: expected a link A-B or A-B M, with A below 268435456, B below 65536 and its pause of M minutes below 4096"
@@ -222,7 +285,7 @@ mod tests {
         for ceiling in [1, 2, 4096].into_iter().cycle().take(300) {
             let episodes = 1 + random.below(200);
             let links = (0..random.below(300)).map(|_| random.link(episodes, ceiling)).collect();
-            let log = Log { episodes, links };
+            let log = Log { version: random.below(2), episodes, links };
             assert_eq!(Log::from_text(&log.to_string()).as_ref(), Ok(&log));
             assert_eq!(Log::from_words(&log.words()).as_ref(), Ok(&log));
         }
@@ -234,10 +297,11 @@ mod tests {
         for _ in 0..200 {
             let episodes = 1 + random.below(4);
             let links: Vec<_> = (0..random.below(20)).map(|_| random.link(episodes, 3)).collect();
-            let mut words = vec![0x1000_0000 | episodes];
+            let version = random.below(2);
+            let mut words = vec![0x1000_0000 | version << 24 | episodes];
             words.extend(links.iter().flat_map(|link| [0x2000_0000 | link.from, 0x3000_0000 | link.pause << 16 | link.to]));
             words.push(0xF000_0000 | links.len() as u32);
-            assert_eq!(Log::from_words(&words), Ok(Log { episodes, links }));
+            assert_eq!(Log::from_words(&words), Ok(Log { version, episodes, links }));
         }
     }
 }

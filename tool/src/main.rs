@@ -28,11 +28,12 @@ usage: zohapy-tool COMMAND [FILE]
 
 Without FILE, or where it is -, standard input is read. The answer goes to standard output.
 
-The text form has a line `episodes N`, then a line for each link, again where it is given again: `A-B`, or `A-B M` with its pause of
-M minutes. Blank lines and lines that start with # are passed over. `bytes` does not ask whether the log would be accepted. `text`
-asks questions 1 to 10, and `picture` also shows a loop. The picture's heading counts each link once. The trimmed copy has only those
-links A-B for which no other path leads from A to B, without pauses. A log with a loop has none: `trim` refuses it and prints the
-loop too.
+The text form has a line `version V` unless the version is 0, a line `episodes N`, then a line for each link, again where it is
+given again: `A-B`, or `A-B M` with its pause of M minutes. Blank lines and lines that start with # are passed over. `bytes` does not
+ask whether the log would be accepted. `text` asks questions 1 to 10 and 18, and `picture` also shows a loop. The picture's heading
+counts each link once; links that do not count, those of version 1 with a least pause over 360 minutes, are dotted and not counted.
+The trimmed copy has only those links A-B that count and for which no other path of such links leads from A to B, in version 0 and
+without pauses. A log with a loop has none: `trim` refuses it and prints the loop too.
 
 exit status: 0; 1 where the log is refused, with `refused N at P` on standard error; 2 on any other trouble.
 ";
@@ -169,6 +170,36 @@ mod tests {
     }
 
     #[test]
+    fn the_version_from_text_to_bytes_to_text() {
+        let given = &b"version 1\nepisodes 3\n0-1 400\n0-1 200\n1-2 361\n"[..];
+        let made = bytes(&mut { given }).expect("a text form");
+        assert_eq!(made[..4], [3, 0, 0, 0x11]);
+        assert_eq!(text(&mut &made[..]), Ok(given.to_vec()));
+        let behind = bytes(&mut &b"episodes 3\nversion 1\n0-1 400\n0-1 200\n1-2 361\n"[..]).expect("a text form");
+        assert_eq!(behind, made);
+    }
+
+    #[test]
+    fn a_version_that_is_neither_0_nor_1_is_refused() {
+        for version in 2..16 {
+            let made = bytes(&mut format!("version {version}\nepisodes 201\n0-1\n").as_bytes()).expect("a text form");
+            assert_eq!(text(&mut &made[..]), refused(18, 0));
+            assert_eq!(picture(&mut &made[..]), refused(18, 0));
+            assert_eq!(trim(&mut &made[..]), refused(18, 0));
+        }
+    }
+
+    #[test]
+    fn links_that_do_not_count_are_in_the_text_and_dotted_in_a_picture() {
+        let made = bytes(&mut &b"version 1\nepisodes 3\n0-1 400\n0-1 200\n1-2 361\n1-2 900\n"[..]).expect("a text form");
+        let svg = String::from_utf8(picture(&mut &made[..]).expect("the log has a report")).expect("text");
+        assert_eq!(svg.matches("Sleeper report: 3 episodes, 1 link, width 2<").count(), 2, "the title and the heading");
+        assert!(svg.contains("\nlinks 1\n") && svg.contains(">200</text>") && svg.contains(">361</text>"));
+        assert_eq!(svg.matches("class=\"dotted\"").count(), 1);
+        assert_eq!(trim(&mut &made[..]), bytes(&mut &b"episodes 3\n0-1\n"[..]));
+    }
+
+    #[test]
     fn a_repeated_link_stands_twice_in_the_text_and_counts_once_in_a_picture() {
         for given in [&b"episodes 2\n0-1\n0-1\n"[..], b"episodes 2\n0-1 45\n0-1 40\n"] {
             let made = bytes(&mut { given }).expect("a text form");
@@ -181,6 +212,8 @@ mod tests {
 
     #[test]
     fn a_wrong_text_has_status_2() {
+        let trouble = bytes(&mut &b"episodes 5\n0-1\nversion 1\n"[..]).expect_err("the version stands behind a link");
+        assert_eq!((trouble.status, trouble.message.starts_with("line 3: expected version V")), (2, true));
         for wrong in [&b"episodes 5\n0-\xFF\n"[..], b"episodes 5\n0-1 4096\n", b"episodes 5\n0-1 2 3\n"] {
             let trouble = bytes(&mut { wrong }).expect_err("the second line is no link");
             assert_eq!((trouble.status, trouble.message.starts_with("line 2: expected a link")), (2, true));

@@ -3,7 +3,7 @@
 use std::cmp::Ordering;
 use std::collections::{BTreeMap, BTreeSet};
 
-use zohapy::{Link, Report};
+use zohapy::{LONGEST_PAUSE, Link, Report, counts};
 
 use crate::log::Log;
 
@@ -20,7 +20,8 @@ const LEAST_WIDTH: usize = 760;
 const ROW: usize = 38;
 const RING: usize = 9;
 
-/// A picture of a report: one line for each thread, a ring round each member of the apart set, and the log's other links as arcs.
+/// A picture of a report: one line for each thread, a ring round each member of the apart set, and the log's other links as arcs,
+/// dotted where they do not count.
 pub fn of_report(log: &Log, report: &Report) -> String {
     let on_threads: BTreeSet<(u32, u32)> =
         report.threads.iter().flat_map(|steps| steps.windows(2)).map(|pair| (pair[0], pair[1])).collect();
@@ -49,6 +50,7 @@ pub fn of_report(log: &Log, report: &Report) -> String {
     if !others.is_empty() {
         picture.note("arcs: the log's other links, above the episodes to a larger number, below to a smaller one.");
     }
+    picture.note_on_dotted();
     picture.note_on_pauses();
     picture.axis(&others, &[], &report.apart);
     for (i, steps) in report.threads.iter().enumerate() {
@@ -58,7 +60,8 @@ pub fn of_report(log: &Log, report: &Report) -> String {
     picture.finished()
 }
 
-/// A picture of a loop: its episodes in rings, its links as arrows, and the log's other links as arcs.
+/// A picture of a loop: its episodes in rings, its links as arrows, and the log's other links as arcs, dotted where they do not
+/// count.
 pub fn of_loop(log: &Log, episodes: &[u32]) -> String {
     let first = episodes[0];
     let links: Vec<(u32, u32)> = episodes.iter().copied().zip(episodes[1..].iter().copied().chain([first])).collect();
@@ -80,6 +83,7 @@ pub fn of_loop(log: &Log, episodes: &[u32]) -> String {
     picture.heading(&format!("No report: the log has a loop of {length}"), &lines);
     picture.note(&format!("loop: {reason}"));
     picture.note("arcs: the log's links, above the episodes to a larger number, below to a smaller one.");
+    picture.note_on_dotted();
     picture.note_on_pauses();
     picture.axis(&others, &links, episodes);
     picture.finished()
@@ -147,6 +151,8 @@ struct Picture {
     y: usize,
     /// Where the row of all episodes stands.
     axis_at: usize,
+    /// The links that do not count.
+    dotted: BTreeSet<(u32, u32)>,
     /// The least pauses that are not 0, those that are to be written, and what they must not overlap.
     pauses: BTreeMap<(u32, u32), u32>,
     wanted: Vec<Wanted>,
@@ -161,6 +167,8 @@ impl Picture {
         let step = (900 / episodes.max(1)).clamp(24, 64);
         let width = (LEFT + step * episodes.saturating_sub(1) + RIGHT).max(LEAST_WIDTH);
         let size = if step < 26 { 10 } else { 12 };
+        let pauses = least_pauses(log);
+        let dotted = pauses.iter().filter(|(_, pause)| !counts(log.version, **pause)).map(|(link, _)| *link).collect();
         Picture {
             episodes,
             step,
@@ -169,7 +177,8 @@ impl Picture {
             longest: 0,
             y: 0,
             axis_at: 0,
-            pauses: least_pauses(log),
+            dotted,
+            pauses,
             wanted: Vec::new(),
             taken: Vec::new(),
             head: String::new(),
@@ -219,6 +228,15 @@ impl Picture {
         self.put(&format!("<text x=\"12\" y=\"{}\" font-size=\"14\">{line}</text>", self.y));
     }
 
+    /// What dotted arcs are, where there are any.
+    fn note_on_dotted(&mut self) {
+        if !self.dotted.is_empty() {
+            self.note(&format!(
+                "dotted arcs: links that do not count, because their least pause is over {LONGEST_PAUSE} minutes."
+            ));
+        }
+    }
+
     /// What the figures beside links are, where there are any.
     fn note_on_pauses(&mut self) {
         if !self.pauses.is_empty() {
@@ -226,8 +244,8 @@ impl Picture {
         }
     }
 
-    /// The row of all episodes, with arcs and arrows above and below it. Marked episodes have bold numbers, and rings where there
-    /// are arrows.
+    /// The row of all episodes, with arcs and arrows above and below it. Arcs of links that do not count are dotted. Marked
+    /// episodes have bold numbers, and rings where there are arrows.
     fn axis(&mut self, arcs: &BTreeSet<(u32, u32)>, arrows: &[(u32, u32)], marked: &[u32]) {
         self.longest = arcs.iter().chain(arrows).map(|link| link.0.abs_diff(link.1) as usize).max().unwrap_or(0);
         let rises = |link: &&(u32, u32)| link.0 <= link.1;
@@ -237,14 +255,20 @@ impl Picture {
 
         let y = self.y + 24 + above + 12;
         let under = y + 14 + self.size;
-        let (thick, strength) = if arcs.len() > 400 { (0.6, 0.1) } else { (1.0, 0.5) };
-        self.put(&format!(
-            "<g class=\"arcs\" fill=\"none\" stroke=\"#555555\" stroke-width=\"{thick}\" stroke-opacity=\"{strength}\">"
-        ));
-        for link in arcs {
-            self.arc(*link, y - 5, under);
-        }
+        // Dots have less ink than a line, so they are larger and stronger.
+        let [lines, dots] = if arcs.len() > 400 { [(0.6, 0.1), (0.9, 0.2)] } else { [(1.0, 0.5), (1.5, 0.8)] };
+        let style = |(thick, strength)| {
+            format!("fill=\"none\" stroke=\"#555555\" stroke-width=\"{thick}\" stroke-opacity=\"{strength}\"")
+        };
+        let (dotted, whole): (Vec<(u32, u32)>, Vec<_>) = arcs.iter().partition(|link| self.dotted.contains(link));
+        self.put(&format!("<g class=\"arcs\" {}>", style(lines)));
+        whole.into_iter().for_each(|link| self.arc(link, y - 5, under));
         self.put("</g>");
+        if !dotted.is_empty() {
+            self.put(&format!("<g class=\"dotted\" {} stroke-linecap=\"round\" stroke-dasharray=\"0 4\">", style(dots)));
+            dotted.into_iter().for_each(|link| self.arc(link, y - 5, under));
+            self.put("</g>");
+        }
         if !arrows.is_empty() {
             self.head.push_str(
                 "<defs><marker id=\"tip\" viewBox=\"0 0 10 10\" refX=\"9\" refY=\"5\" markerWidth=\"11\" markerHeight=\"11\" \
@@ -472,12 +496,24 @@ mod tests {
     }
 
     fn log(episodes: u32, links: &[(u32, u32)]) -> Log {
-        Log { episodes, links: links.iter().map(|&(from, to)| Link { from, to, pause: 0 }).collect() }
+        Log { version: 0, episodes, links: links.iter().map(|&(from, to)| Link { from, to, pause: 0 }).collect() }
+    }
+
+    /// The same links in version 1.
+    fn in_version_1(log: Log) -> Log {
+        Log { version: 1, ..log }
+    }
+
+    /// The paths of a group, without what it begins with.
+    fn paths<'a>(svg: &'a str, group: &str) -> Vec<&'a str> {
+        let Some((_, rest)) = svg.split_once(&format!("<g class=\"{group}\"")) else { return Vec::new() };
+        let (content, _) = rest.split_once("</g>").expect("the group ends");
+        content.lines().skip(1).collect()
     }
 
     /// A log of links with their pauses.
     fn paused(episodes: u32, links: &[(u32, u32, u32)]) -> Log {
-        Log { episodes, links: links.iter().map(|&(from, to, pause)| Link { from, to, pause }).collect() }
+        Log { version: 0, episodes, links: links.iter().map(|&(from, to, pause)| Link { from, to, pause }).collect() }
     }
 
     /// The value of an element's attribute.
@@ -562,14 +598,16 @@ mod tests {
     #[test]
     fn random_logs() {
         let mut random = Random::new();
-        for ceiling in [1, 3, 100, 4096].into_iter().cycle().take(200) {
+        for (round, ceiling) in [1, 3, 100, 4096].into_iter().cycle().take(200).enumerate() {
             let episodes = 2 + random.below(60);
             let links = (0..random.below(200)).map(|_| random.link(episodes, ceiling)).filter(|link| link.from < link.to);
-            let log = Log { episodes, links: links.collect() };
+            let log = Log { version: round as u32 / 4 % 2, episodes, links: links.collect() };
             let (svg, _) = picture(&log);
             let least = least_pauses(&log);
             assert!(minutes(&svg).iter().all(|pause| least.values().any(|least| least == pause)));
             assert_eq!(svg.contains(">pauses: "), !least.is_empty());
+            let long = least.values().filter(|pause| log.version == 1 && **pause > 360).count();
+            assert_eq!(paths(&svg, "dotted").len(), long);
         }
     }
 
@@ -630,6 +668,68 @@ mod tests {
         let links = [(0, 199, 1), (49, 101, 2), (50, 100, 3), (5, 5, 4)];
         assert_eq!(minutes(&of_loop(&paused(200, &links), &[5])), [4, 1, 2]);
         assert_eq!(minutes(&of_loop(&paused(200, &[&links[..], &[(100, 50, 9)]].concat()), &[50, 100])), [3, 9, 1, 4]);
+    }
+
+    #[test]
+    fn links_that_do_not_count_are_dotted_once_each_with_their_least_pause() {
+        // 0-1 and 1-2 count; the others do not, one of them given twice, one to a smaller number and one to itself.
+        let links = [(0, 1, 360), (1, 2, 400), (1, 2, 200), (2, 3, 900), (2, 3, 361), (2, 0, 500), (3, 3, 4095)];
+        let (svg, report) = picture(&in_version_1(paused(4, &links)));
+        assert_eq!((report.links, report.threads), (2, vec![vec![0, 1, 2], vec![3]]));
+        assert!(svg.contains(">Sleeper report: 4 episodes, 2 links, width 2</text>"));
+        assert!(svg.contains(">dotted arcs: links that do not count, because their least pause is over 360 minutes.</text>"));
+        assert_eq!((paths(&svg, "arcs").len(), paths(&svg, "dotted").len()), (0, 3));
+        assert_eq!(minutes(&svg), [500, 361, 4095, 360, 200]);
+        // In version 0 there is no report; without the links that close loops none is dotted.
+        assert!(matches!(Report::of(&paused(4, &links).words()), Err(Failure::Loop(_))));
+        let (svg, report) = picture(&paused(4, &links[..5]));
+        assert_eq!((report.links, report.width), (3, 1));
+        assert!(!svg.contains("dotted"));
+    }
+
+    #[test]
+    fn dotted_arcs_are_those_that_other_arcs_would_be() {
+        // In version 0 all four are arcs, and so are they in version 1, where the first and the last count.
+        let links = [(0, 3, 360), (0, 4, 361), (1, 3, 700), (2, 4, 0)];
+        let rows = [(0, 1, 1), (1, 2, 2), (2, 3, 3), (3, 4, 4)];
+        let log = paused(5, &[&rows[..], &links[..]].concat());
+        let [(of_0, _), (of_1, _)] = [picture(&log), picture(&in_version_1(log.clone()))];
+        let [all, lines, dots] = [paths(&of_0, "arcs"), paths(&of_1, "arcs"), paths(&of_1, "dotted")];
+        assert_eq!((all.len(), lines.len(), dots.len()), (4, 2, 2));
+        // A path is `<path d="Mx y Qx y x y"/>`. The note on dotted arcs moves all else down, so only x is compared.
+        let across = |path: &&str| path.split(' ').skip(1).step_by(2).map(str::to_string).collect::<Vec<_>>();
+        let places = |paths: &[&str]| paths.iter().map(across).collect::<BTreeSet<_>>();
+        assert_eq!(places(&all), places(&[lines, dots].concat()));
+        assert_eq!(minutes(&of_0), minutes(&of_1));
+    }
+
+    #[test]
+    fn where_every_link_counts_the_picture_is_that_of_version_0() {
+        let mut random = Random::new();
+        for ceiling in [1, 100, 361].into_iter().cycle().take(150) {
+            let episodes = 1 + random.below(30);
+            let links = (0..random.below(60)).map(|_| random.link(episodes, ceiling)).collect();
+            let log = Log { version: 0, episodes, links };
+            let [of_0, of_1] = [log.clone(), in_version_1(log)].map(|log| match Report::of(&log.words()) {
+                Ok(report) => of_report(&log, &report),
+                Err(Failure::Loop(episodes)) => of_loop(&log, &episodes),
+                Err(failure) => panic!("{failure}"),
+            });
+            assert!(of_0 == of_1 && !of_0.contains("dotted"));
+        }
+    }
+
+    #[test]
+    fn a_loop_has_dotted_arcs_for_the_links_that_do_not_count() {
+        let log = in_version_1(paused(4, &[(0, 1, 5), (1, 0, 6), (2, 1, 361), (2, 3, 360), (3, 3, 400), (2, 1, 400)]));
+        let Err(Failure::Loop(episodes)) = Report::of(&log.words()) else { panic!("the log has a loop") };
+        assert_eq!(episodes, [0, 1]);
+        let svg = of_loop(&log, &episodes);
+        check_elements(&svg);
+        let groups = ["arrows", "arcs", "dotted"].map(|group| paths(&svg, group).len());
+        assert_eq!(groups, [2, 1, 2]);
+        assert!(svg.contains(">dotted arcs: links that do not count, "));
+        assert_eq!(minutes(&svg), [5, 6, 361, 360, 400]);
     }
 
     #[test]

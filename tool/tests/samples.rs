@@ -4,13 +4,17 @@
 use std::path::PathBuf;
 use std::process::{Command, Output};
 
-use zohapy::{Report, WORK_WORDS, bytes_from_words, copy_words, fair_copy, links, read, words_from_bytes};
+use zohapy::{
+    Failure, Link, Report, WORK_WORDS, bytes_from_words, copy_words, fair_copy, head_episodes, head_version, kind, links, read,
+    to_word, words_from_bytes,
+};
 
 /// The samples, and whether they have a text form.
-const SAMPLES: [(&str, bool); 6] = [
+const SAMPLES: [(&str, bool); 7] = [
     ("whole-example", true),
     ("small-night", true),
     ("paused-night", true),
+    ("long-night", true),
     ("full-night", true),
     ("loop", true),
     ("damaged", false),
@@ -64,27 +68,53 @@ fn each_has_a_picture_or_a_refusal() {
 
 #[test]
 fn the_stored_pictures_are_those_of_the_logs() {
-    for name in ["small-night", "paused-night"] {
+    for name in ["small-night", "paused-night", "long-night"] {
         assert!(run("picture", name, "log").stdout == content(name, "svg"), "{name}");
     }
 }
 
 #[test]
-fn the_stored_fair_copy_is_that_of_the_log() {
-    let log = words_from_bytes(&content("paused-night", "log")).expect("the bytes are words");
-    let mut out = vec![0; copy_words(read(&log).expect("the log passes").links)];
-    let count = fair_copy(&log, &mut out, &mut vec![0; WORK_WORDS]).expect("the log has a fair copy");
-    assert!(bytes_from_words(&out[..count]) == run("bytes", "paused-night", "fair.txt").stdout);
+fn the_stored_fair_copies_are_those_of_the_logs() {
+    for name in ["paused-night", "long-night"] {
+        let log = words_from_bytes(&content(name, "log")).expect("the bytes are words");
+        let mut out = vec![0; copy_words(read(&log).expect("the log passes").links)];
+        let count = fair_copy(&log, &mut out, &mut vec![0; WORK_WORDS]).expect("the log has a fair copy");
+        assert!(bytes_from_words(&out[..count]) == run("bytes", name, "fair.txt").stdout, "{name}");
+    }
 }
 
 #[test]
-fn a_log_and_its_trimmed_copy_without_pauses_differ_in_one_link() {
-    let fair = words_from_bytes(&run("bytes", "paused-night", "fair.txt").stdout).expect("the bytes are words");
-    let trimmed = words_from_bytes(&run("trim", "paused-night", "log").stdout).expect("the bytes are words");
-    let mut kept = links(&fair).expect("the fair copy passes");
-    kept.retain(|link| (link.from, link.to) != (0, 6));
-    kept.iter_mut().for_each(|link| link.pause = 0);
-    assert_eq!(links(&trimmed), Ok(kept));
+fn a_trimmed_copy_lacks_the_implied_link_and_those_that_do_not_count() {
+    let rows = [("paused-night", &[(0, 6)][..]), ("long-night", &[(0, 5), (1, 5), (4, 6), (9, 2)])];
+    for (name, left_out) in rows {
+        let fair = words_from_bytes(&run("bytes", name, "fair.txt").stdout).expect("the bytes are words");
+        let trimmed = words_from_bytes(&run("trim", name, "log").stdout).expect("the bytes are words");
+        let mut kept = links(&fair).expect("the fair copy passes");
+        kept.retain(|link| !left_out.contains(&(link.from, link.to)));
+        kept.iter_mut().for_each(|link| link.pause = 0);
+        assert_eq!(links(&trimmed), Ok(kept), "{name}");
+        assert_eq!((head_version(trimmed[0]), head_episodes(trimmed[0])), (0, head_episodes(fair[0])), "{name}");
+    }
+}
+
+#[test]
+fn what_the_pauses_of_long_night_do() {
+    let log = words_from_bytes(&content("long-night", "log")).expect("the bytes are words");
+    let links = links(&log).expect("the log passes");
+    // The width where the to word of one link has another pause.
+    let width = |from, to, pause, other| {
+        let mut log = log.clone();
+        let at = links.iter().position(|link| *link == Link { from, to, pause }).expect("it is a link of the log");
+        *log.iter_mut().filter(|word| kind(**word) == 3).nth(at).expect("it has a to word") = to_word(to, other).expect("room");
+        Report::of(&log).map(|report| report.width)
+    };
+    assert_eq!(Report::of(&log).map(|report| report.width), Ok(3));
+    assert_eq!(width(4, 6, 361, 360), Ok(2));
+    assert!(matches!(width(9, 2, 480, 360), Err(Failure::Loop(_))));
+    assert_eq!(width(1, 5, 420, 360), Ok(3));
+    assert_eq!(width(3, 4, 360, 361), Ok(4));
+    assert_eq!(width(2, 5, 200, 361), Ok(4));
+    assert_eq!(width(2, 5, 400, 360), Ok(3));
 }
 
 #[test]

@@ -1,20 +1,21 @@
 -- Laws of bits in a list of words: after a word is stored or copied, of the first bit, and of the first new one.
 use mathlib.Core.Path.{◌≡◌, refl, sym, ap, ap₂, ◌∙◌}
 use mathlib.Core.Logic.{◌≢◌}
-use mathlib.Core.Bool.{true, false, true≢false}
+use mathlib.Core.Bool.{Bool, true, false, true≢false}
 use lib.Dec.{eqb}
 use Rattle.std.proofs.lemmas.Bool.{eqb-true, eq-eqb}
 use mathlib.Core.List.{List}
 use Prim.Native.Nat.{ℕ, ◌+◌, ◌-◌, ◌*◌, ◌/◌, ◌%◌, ◌^◌, ◌≤◌, ◌<◌, max}
 use native.Mathlib.Decide.{dec_lt, ℕ_discrete}
-use native.Mathlib.Nat.{mod-lt, div-eq_of_lt, div-le_self, zero-lt-suc, lt_of_lt_of_le, lt_of_le_of_lt}
+use native.Mathlib.Nat.{zero-mul, mod-lt, div-eq_of_lt, div-le_self, zero-lt-suc, lt_of_lt_of_le, lt_of_le_of_lt}
 use native.Mathlib.Omega.{arith}
 use lib.ListN.{length, get_or, set, length-set}
-use lib.Seq.{get_or-set_same, get_or-set_other}
+use lib.Seq.{get_or-set_same, get_or-set_other, set-get_or}
 use lib.Pow.{pow_mono}
-use lib.Bits.{bit_or}
+use lib.Bits.{bit_or, or_zero_r}
 use lib.Count.{count_trailing_zeros}
-use Rattle.bits.specs.Bits.{digit, bit, BitSet, RowAdded, RowLess, FirstFrom, WordOf, NextNew}
+use mir.Val.{bool_byte}
+use Rattle.bits.specs.Bits.{digit, bit, BitSet, SetWhere, RowAdded, RowLess, FirstFrom, WordOf, NextNew}
 use Rattle.bits.specs.Ones.{BitGiven}
 use Rattle.bits.specs.declared.ones.Row.{Row}
 use Rattle.bits.proofs.Digits.{mask, digit_lt, digit_or, digit_shr, digit_one, digit_other, digit_trailing, digit_below, digit_none}
@@ -90,6 +91,14 @@ set_bit_law w row b h =
         let same : row + c / 32 ≡ at = omega arith in
         let z : digit (2 ^ (b % 32)) (c % 32) ≡ 0 = digit_other (b % 32) (c % 32) (λ f. ne (omega arith)) in
         rw same (ap (λ (x : ℕ). digit x (c % 32)) new ∙ digit_or old (2 ^ (b % 32)) (c % 32) ∙ omega arith)
+
+-- the same, or none
+pub set_where_law : (on : Bool) (w : List ℕ) (row b : ℕ) → row + b / 32 < length w
+    → SetWhere on w (set w (row + b / 32) (bit_or (get_or w (row + b / 32) 0) (bool_byte on * 2 ^ (b % 32) % 4294967296))) row b
+set_where_law true w row b h = set_bit_law w row b h
+set_where_law false w row b h =
+    let none : 0 * 2 ^ (b % 32) % 4294967296 ≡ 0 = rw zero-mul in
+    rw (none, or_zero_r) (set-get_or w (row + b / 32) 0)
 
 -- ---- a row joined into another
 

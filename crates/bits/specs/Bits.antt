@@ -1,5 +1,5 @@
 -- Rows of bits in a list of 32-bit words: 8 words to a row, 32 bits to a word, the lowest first.
-use Rattle.std.specs.Prelude.{◌≡◌, Option, Some, None, ◌≢◌, List, ℕ, zero, suc, ◌+◌, ◌-◌, ◌*◌, ◌/◌, ◌%◌, ◌^◌, ◌≤◌, ◌<◌, max, length, get_or}
+use Rattle.std.specs.Prelude.{◌≡◌, Option, Some, None, ◌≢◌, Bool, true, false, List, ℕ, zero, suc, ◌+◌, ◌-◌, ◌*◌, ◌/◌, ◌%◌, ◌^◌, ◌≤◌, ◌<◌, max, length, get_or}
 
 -- digit `i` of `x`, in binary
 abbrev pub digit : ℕ → ℕ → ℕ
@@ -15,6 +15,11 @@ pub record BitSet (w w' : List ℕ) (row b : ℕ) : Type 0 where
   pub words : (i : ℕ) → i ≢ row + b / 32 → get_or w' i 0 ≡ get_or w i 0
   pub here : bit w' row b ≡ 1
   pub others : (c : ℕ) → c ≢ b → bit w' row c ≡ bit w row c
+
+-- bit `b` of the row at `row` is set, or no word changes
+abbrev pub SetWhere : Bool → List ℕ → List ℕ → ℕ → ℕ → Type 0
+SetWhere true w w' row b = BitSet w w' row b
+SetWhere false w w' row b = w' ≡ w
 
 -- `w'` is `w` with row `k` of the matrix at `base` joined into row `a`
 pub record RowJoined (w w' : List ℕ) (base a k : ℕ) : Type 0 where

@@ -4,7 +4,7 @@
 #![tactic(auto)]
 
 ghost use Rattle.std.specs.Prelude.{◌≡◌, ℕ, ◌+◌, ◌-◌, ◌*◌, ◌/◌, ◌<◌, ◌≤◌, IfSome, eqb, length, get_or, replicate};
-ghost use Rattle.bits.specs.Bits.{digit, bit, BitSet, RowJoined, RowAdded, RowGained, RowTaken, RowLess, RowCopied, FirstFrom, WordOf, FirstBit, NextNew, place_or_end};
+ghost use Rattle.bits.specs.Bits.{digit, bit, BitSet, SetWhere, RowJoined, RowAdded, RowGained, RowTaken, RowLess, RowCopied, FirstFrom, WordOf, FirstBit, NextNew, place_or_end};
 
 pub mod ones;
 
@@ -56,6 +56,14 @@ pub fn set_bit(w: &mut [u32], row: usize, b: usize)
     ensures { BitSet w.old w.new row b }
 {
     w[row + b / 32] |= 1 << (b % 32);
+}
+
+// Sets bit `b` of the row that starts at word `row` where `on` says so, without a branch.
+pub fn set_bit_where(w: &mut [u32], row: usize, b: usize, on: bool)
+    requires { row + b / 32 < length w.old }
+    ensures { SetWhere on w.old w.new row b }
+{
+    w[row + b / 32] |= u32::from(on) << (b % 32);
 }
 
 // Joins the row `from` into the row `to`.

@@ -8,11 +8,11 @@ use native.Mathlib.Numerals.{add-one}
 use lib.ListN.{length, take, drop}
 use Rattle.std.proofs.Common.{Bor, MutBor}
 use Rattle.paths.specs.Graph.{Graph}
-use Rattle.logs.specs.Content.{least_pause}
-use Rattle.logs.specs.Log.{content_of, graph_of}
+use Rattle.logs.specs.Content.{heard_graph, least_pause}
+use Rattle.logs.specs.Log.{content_of}
 use Rattle.logs.specs.declared.passed.Log.{Log}
 use Rattle.logs.proofs.Laws.{graph_episodes}
-use Rattle.copying.specs.FairCopy.{linked_to, group, copy_words}
+use Rattle.copying.specs.FairCopy.{linked_to, group, copy_length}
 use Rattle.copying.specs.Copying.{BlockMarks, LinksWritten}
 use Rattle.copying.specs.Calls.{RoomFor, CalledBelow, WritesLinks}
 use Rattle.copying.proofs.Rows.{next_block}
@@ -39,7 +39,7 @@ module _ {F : Type 0} (pre : F → ℕ → MutBor (List ℕ) → Type 0) (step :
 -- the next call, for the group of `a`, behind those below
 module _ {F : Type 0} {pre : F → ℕ → MutBor (List ℕ) → Type 0} {step : F → ℕ → MutBor (List ℕ) → ℕ → MutBor (List ℕ) → F → Type 0}
     {pause : ℕ → ℕ → ℕ} {g : Graph} {f e : F} {o o' : List ℕ} {words links a : ℕ} (calls : WritesLinks pre step pause g f)
-    (fits : length (copy_words pause g) ≤ length o) (before : CalledBelow pre step pause g f a e) (s : Copying pause g o o' words links a) (h : a < g.n)
+    (fits : copy_length pause g ≤ length o) (before : CalledBelow pre step pause g f a e) (s : Copying pause g o o' words links a) (h : a < g.n)
   where
     pub next_may : (p : MutBor (List ℕ)) → p.now ≡ take (length o' - words) (drop words o') → pre e a p
     next_may p at = calls.may a e p before h (rw at (copying_room s fits _ refl h))
@@ -68,30 +68,30 @@ pub record Asked (f : Held) (a : ℕ) (o : List ℕ) : Type 0 where
   pub marks : a % 64 ≢ 0 → BlockMarks (a / 64) (content_of f.0.now.words.now) f.1.now
   pub below : a < f.0.now.episodes
   pub room : let l = f.0.now.words.now in
-      length (group a (least_pause (content_of l) a) (linked_to a (graph_of l).links f.0.now.episodes)) < length o
+      length (group a (least_pause (content_of l) a) (linked_to a (heard_graph (content_of l)).links f.0.now.episodes)) < length o
 
 -- and what they leave
 pub record Left (f : Held) (a : ℕ) (o : List ℕ) (r : ℕ) (o' : List ℕ) (f' : Held) : Type 0 where
   pub log : f'.0.now ≡ f.0.now
   pub marks : BlockMarks (a / 64) (content_of f.0.now.words.now) f'.1.now
   pub links : let l = f.0.now.words.now in
-      LinksWritten (least_pause (content_of l) a) (linked_to a (graph_of l).links f.0.now.episodes) o o' r
+      LinksWritten (least_pause (content_of l) a) (linked_to a (heard_graph (content_of l)).links f.0.now.episodes) o o' r
 
 -- what stands before the group of `a`
 record Ready (l : Log) (a : ℕ) (f : Held) : Type 0 where
   log : f.0.now ≡ l
   marks : a % 64 ≢ 0 → BlockMarks (a / 64) (content_of l.words.now) f.1.now
 
--- then they write the links of the log's graph
+-- then they write the links that were heard
 pub fair_links : (pre : Held → ℕ → MutBor (List ℕ) → Type 0) (step : Held → ℕ → MutBor (List ℕ) → ℕ → MutBor (List ℕ) → Held → Type 0)
     → ((a : ℕ) (f : Held) (o : MutBor (List ℕ)) → Asked f a o.now → pre f a o)
     → ((a r : ℕ) (f f' : Held) (o o' : MutBor (List ℕ)) → step f a o r o' f' → Left f a o.now r o'.now f')
     → (f : Held) → f.0.now.episodes ≤ 256
-    → WritesLinks pre step (least_pause (content_of f.0.now.words.now)) (graph_of f.0.now.words.now) f
+    → WritesLinks pre step (least_pause (content_of f.0.now.words.now)) (heard_graph (content_of f.0.now.words.now)) f
 fair_links pre step may leave f few =
     let l = f.0.now in
-    let count : (graph_of l.words.now).n ≡ l.episodes = graph_episodes _ l.words.now l.episodes l.to_words l.passes in
-    writes_links pre step (least_pause (content_of l.words.now)) (graph_of l.words.now) (Ready l)
+    let count : (content_of l.words.now).n ≡ l.episodes = graph_episodes _ l.words.now l.episodes l.to_words l.passes in
+    writes_links pre step (least_pause (content_of l.words.now)) (heard_graph (content_of l.words.now)) (Ready l)
     (λ a e o h s room.
     may a e o
     (record {

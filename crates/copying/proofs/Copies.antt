@@ -8,23 +8,26 @@ use lib.ListN.{length, get_or, set, take, drop, length-append, length-map, lengt
 use Rattle.paths.specs.Graph.{Graph}
 use Rattle.paths.specs.Links.{linked}
 use Rattle.paths.proofs.Passing.{length_passing}
-use Rattle.logs.specs.Words.{word, to_word}
-use Rattle.logs.specs.Log.{graph_of, PassedLog}
-use Rattle.logs.proofs.Words.{number_lt}
-use Rattle.logs.proofs.Laws.{words_small, graph_count}
+use Rattle.logs.specs.Words.{word, head_of, to_word}
+use Rattle.logs.specs.Content.{heard_graph}
+use Rattle.logs.specs.Log.{content_of, graph_of, PassedLog}
+use Rattle.logs.proofs.Laws.{words_small, heard_links_count}
 use Rattle.writing.specs.Layout.{BeginsWith}
 use Rattle.writing.proofs.Buffers.{begins_itself, begins_first, begins_more, begins_length, begins_part, lent_part, lent_rest}
-use Rattle.copying.specs.FairCopy.{linked_to, group, groups, group_links, copy_words}
+use Rattle.copying.specs.FairCopy.{linked_to, group, groups, group_links, copy_words, copy_length}
 use Rattle.copying.specs.Copying.{group_length, LinksWritten, GroupWritten, GroupsWritten}
 use Rattle.copying.proofs.Linked.{length_group, groups_more, length_copy, group_room}
 use Rattle.copying.proofs.GroupLinks.{links_of}
 
 -- the numbers of a log that passes fit its words
-pub episodes_few : (l : List ℕ) → (graph_of l).n < 2 ^ 28
-episodes_few l = number_lt (get_or l 0 0)
+pub episodes_few : (l : List ℕ) → (graph_of l).n < 2 ^ 24
+episodes_few l = omega arith
 
-pub links_small : (l : List ℕ) → PassedLog l → length (graph_of l).links < 2 ^ 28
-links_small l (m, n, t, e, few) = omega (arith, words_small m l n t e, graph_count m l n t e)
+pub version_small : (l : List ℕ) → (content_of l).version < 2 ^ 4
+version_small l = omega arith
+
+pub links_small : (l : List ℕ) → PassedLog l → length (heard_graph (content_of l)).links < 2 ^ 28
+links_small l (m, n, t, e, few) = omega (arith, words_small m l n t e, heard_links_count m l n t e)
 
 -- one episode of few has few links
 pub few_links : (ls : List (ℕ × ℕ)) (n a : ℕ) {pause : ℕ → ℕ} {o o' : List ℕ} {r : ℕ} → n < 2 ^ 28 → LinksWritten pause (linked_to a ls n) o o' r → r < 2 ^ 28
@@ -50,11 +53,12 @@ pub record Copying (pause : ℕ → ℕ → ℕ) (g : Graph) (o o' : List ℕ) (
   pub count : links ≡ length (group_links g a)
   pub begins : BeginsWith (get_or o 0 0 ∷ groups pause g a) o o'
 
-pub copying_none : (pause : ℕ → ℕ → ℕ) (g : Graph) (o : List ℕ) → length (copy_words pause g) ≤ length o → Copying pause g o o 1 0 0
+pub copying_none : (pause : ℕ → ℕ → ℕ) (g : Graph) (o : List ℕ) → copy_length pause g ≤ length o → Copying pause g o o 1 0 0
 unfolding groups group_links
-copying_none pause g o h = record { item = omega arith; size = refl; count = refl; begins = begins_itself o (omega (arith, length_copy pause g)) }
+copying_none pause g o h = record { item = omega arith; size = refl; count = refl; begins = begins_itself o (omega arith) }
 
-module _ {pause : ℕ → ℕ → ℕ} {g : Graph} {o o' : List ℕ} {words links a : ℕ} (s : Copying pause g o o' words links a) (fits : length (copy_words pause g) ≤ length o) where
+module _ {pause : ℕ → ℕ → ℕ} {g : Graph} {o o' : List ℕ} {words links a : ℕ} (s : Copying pause g o o' words links a)
+    (fits : copy_length pause g ≤ length o) where
   pub copying_length : length o' ≡ length o
   copying_length = begins_length (get_or o 0 0 ∷ groups pause g a) o o' s.begins
 
@@ -104,24 +108,28 @@ module _ {pause : ℕ → ℕ → ℕ} {g : Graph} {o o' : List ℕ} {words link
               (begins_part (get_or o 0 0 ∷ groups pause g a) o o' s.begins (group a (pause a) bs) p words (omega (arith, s.size)) (rw (← count) at part)));
         }
 
+-- there is room for a copy of any version where there is for one
+pub room_any_version : (v : ℕ) (pause : ℕ → ℕ → ℕ) (g : Graph) (o : List ℕ) → length (copy_words v pause g) ≤ length o → copy_length pause g ≤ length o
+room_any_version v pause g o h = omega (arith, length_copy pause g v)
+
 -- the head and the end are written
-module _ (pause : ℕ → ℕ → ℕ) (g : Graph) (o o' : List ℕ) (words links : ℕ) (h : length (copy_words pause g) ≤ length o) (s : GroupsWritten pause g o o' words links) where
+module _ (pause : ℕ → ℕ → ℕ) (g : Graph) (o o' : List ℕ) (words links : ℕ) (h : copy_length pause g ≤ length o)
+    (s : GroupsWritten pause g o o' words links) where
   pub end_room : words < length o'
   end_room =
       let same = begins_length (get_or o 0 0 ∷ groups pause g g.n) o o' s.begins in
-      let size = length_copy pause g in
       omega (arith, s.count)
 
-  pub copy_whole : (n : ℕ) → g.n ≡ n
-      → (words + 1 ≡ length (copy_words pause g)) × BeginsWith (copy_words pause g) o (set (set o' 0 (word 1 n)) words (word 15 links))
+  pub copy_whole : (v n : ℕ) → g.n ≡ n
+      → (words + 1 ≡ length (copy_words v pause g)) × BeginsWith (copy_words v pause g) o (set (set o' 0 (head_of v n)) words (word 15 links))
   unfolding copy_words
-  copy_whole n e =
+  copy_whole v n e =
       let z = s.count in
-      let size = length_copy pause g in
-      let front : BeginsWith (word 1 g.n ∷ groups pause g g.n) o (set o' 0 (word 1 n)) =
-      rw (← e) (begins_first (get_or o 0 0) (word 1 g.n) (groups pause g g.n) o o' s.begins) in (
+      let size = length_copy pause g v in
+      let front : BeginsWith (head_of v g.n ∷ groups pause g g.n) o (set o' 0 (head_of v n)) =
+      rw (← e) (begins_first (get_or o 0 0) (head_of v g.n) (groups pause g g.n) o o' s.begins) in (
         omega arith,
-        subst (λ (k : ℕ). BeginsWith (word 1 g.n ∷ groups pause g g.n ++ word 15 k ∷ []) o (set (set o' 0 (word 1 n)) words (word 15 links)))
+        subst (λ (k : ℕ). BeginsWith (head_of v g.n ∷ groups pause g g.n ++ word 15 k ∷ []) o (set (set o' 0 (head_of v n)) words (word 15 links)))
             s.link_count
-            (begins_more (word 1 g.n ∷ groups pause g g.n) o (set o' 0 (word 1 n)) front words (word 15 links) (omega arith) (omega arith)),
+            (begins_more (head_of v g.n ∷ groups pause g g.n) o (set o' 0 (head_of v n)) front words (word 15 links) (omega arith) (omega arith)),
       )

@@ -1,28 +1,28 @@
--- The theorems of copies and of the fair copy. A copy tells the links that it is made of, each with the pause that is written; the fair copy
--- of a copy is the same words; two contents have the same fair copy exactly when they agree in episodes, links and least pauses. The fair
--- copy of a log that passes questions 1 to 10 passes them.
+-- The theorems of copies and of the fair copy. A copy tells its version and the links that it is made of, each with the pause that is written;
+-- the fair copy of a copy is the same words; two contents have the same fair copy exactly when they agree in version, episodes, links and
+-- least pauses. The fair copy of a log that passes questions 1 to 10 and 18 passes them.
 use mathlib.Core.Path.{◌≡◌, refl, ◌∙◌, ap, ap₂, sym, subst}
 use mathlib.Core.Logic.{◌↔◌}
 use mathlib.Core.List.Memᴰ
 use mathlib.Core.List.{List, ◌++◌, Nodup, IsChain}
 use Prim.Native.Nat.{ℕ, zero, suc, ◌<◌, ◌≤◌}
 use native.Mathlib.Omega.{arith}
-use lib.ListN.{length, get_or}
+use lib.ListN.{length}
 use Rattle.paths.specs.Graph.{Graph, Link, EndsBelow, SameLinks}
 use Rattle.paths.specs.Links.{linked, link_count}
 use Rattle.paths.proofs.Numbers.{rising_equal}
 use Rattle.paths.proofs.Passing.{passing_rising}
-use Rattle.logs.specs.Content.{Heard, Content, graph, HeardOf, LeastPause, SameContent, least_pause}
+use Rattle.logs.specs.Content.{Heard, Content, heard_graph, HeardOf, LeastPause, SameContent, least_pause}
 use Rattle.logs.specs.Answer.{given}
 use Rattle.logs.specs.Log.{questions, content_of, graph_of}
 use Rattle.logs.specs.declared.Ceilings.{Ceilings}
-use Rattle.logs.proofs.Words.{number_lt}
-use Rattle.logs.proofs.Pauses.{least_pause_lem, link_heard, same_links, same_least, content_same, content_sym, content_trans}
-use Rattle.logs.proofs.Laws.{words_small, few_episodes, few_words, graph_episodes, graph_count, links_below, content_fits}
+use Rattle.logs.proofs.Pauses.{least_pause_lem, link_heard, same_heards, same_least, content_same, content_sym, content_trans}
+use Rattle.logs.proofs.Counts.{same_links}
+use Rattle.logs.proofs.Laws.{version_known, words_small, few_episodes, few_words, graph_episodes, heard_links_count, heard_below, content_fits}
 use Rattle.copying.specs.FairCopy.{linked_to, group, groups, group_links, copy_words, fair_words, Precedes, fair_need}
 use Rattle.copying.proofs.Linked.{linked_to_mem, mem_linked_to, group_same}
 use Rattle.copying.proofs.GroupLinks.{links_of, group_links_mem, mem_group_links, group_links_nodup, group_links_rising, length_group_links, group_links_count, copy_words_fit}
-use Rattle.copying.proofs.ReadBack.{Fits, paused, copy_episodes, copy_heard, copy_links, copy_passes}
+use Rattle.copying.proofs.ReadBack.{Fits, paused, copy_version, copy_episodes, copy_heard, copy_links, copy_passes}
 
 -- a copy depends only on the episodes, on the links between them and on their pauses
 module _ (p q : ℕ → ℕ → ℕ) (g h : Graph) (episodes : g.n ≡ h.n) (same : (a b : ℕ) → a < g.n → b < g.n → Link g a b ↔ Link h a b)
@@ -50,74 +50,79 @@ module _ (p q : ℕ → ℕ → ℕ) (g h : Graph) (episodes : g.n ≡ h.n) (sam
   group_links_equal (suc k) i =
       ap₂ (λ (xs ys : List (ℕ × ℕ)). xs ++ ys) (group_links_equal k (omega arith)) (ap (links_of k) (linked_to_equal k (omega arith)))
 
-  pub copy_by_links : copy_words p g ≡ copy_words q h
+  pub copy_by_links : (v : ℕ) → copy_words v p g ≡ copy_words v q h
   unfolding copy_words
-  copy_by_links = rw (groups_equal g.n (omega arith), group_links_equal g.n (omega arith), episodes)
+  copy_by_links v = rw (groups_equal g.n (omega arith), group_links_equal g.n (omega arith), episodes)
 
 -- the same links with the same pauses have the same copy
-pub same_copy : (pause : ℕ → ℕ → ℕ) (g h : Graph) → SameLinks g h → copy_words pause g ≡ copy_words pause h
-same_copy pause g h s = copy_by_links pause pause g h s.episodes (λ a b i j. s.links a b) (λ a b i j k. refl)
+pub same_copy : (v : ℕ) (pause : ℕ → ℕ → ℕ) (g h : Graph) → SameLinks g h → copy_words v pause g ≡ copy_words v pause h
+same_copy v pause g h s = copy_by_links pause pause g h s.episodes (λ a b i j. s.links a b) (λ a b i j k. refl) v
 
 -- contents that agree have the same fair copy
 pub same_fair : (c d : Content) → SameContent c d → fair_words c ≡ fair_words d
 same_fair c d s =
-    copy_by_links (least_pause c) (least_pause d) (graph c) (graph d) s.episodes (λ a b i j. (same_links s).links a b) (λ a b i j k. same_least s a b k)
+    copy_by_links (least_pause c) (least_pause d) (heard_graph c) (heard_graph d) s.episodes (λ a b i j. (same_heards s).links a b)
+    (λ a b i j k. same_least s a b k) c.version
+    ∙ ap (λ (v : ℕ). copy_words v (least_pause d) (heard_graph d)) s.versions
 
 -- what a copy tells
-module _ (pause : ℕ → ℕ → ℕ) (g : Graph) (fits : Fits pause g) where
+module _ (v : ℕ) (pause : ℕ → ℕ → ℕ) (g : Graph) (fits : Fits v pause g) where
   abbrev copy : Content
-  copy = content_of (copy_words pause g)
+  copy = content_of (copy_words v pause g)
 
   -- its links are those of the graph that join episodes
-  pub copy_link : (a b : ℕ) → Link (graph copy) a b → (a < g.n) × (b < g.n) × Link g a b
-  copy_link a b l = group_links_mem g g.n a b (rw (copy_links pause g fits) at l)
+  pub copy_link : (a b : ℕ) → Link (heard_graph copy) a b → (a < g.n) × (b < g.n) × Link g a b
+  copy_link a b l = group_links_mem g g.n a b (rw (copy_links v pause g fits) at l)
 
-  pub link_copy : (a b : ℕ) → a < g.n → b < g.n → Link g a b → Link (graph copy) a b
-  link_copy a b i j l = rw (copy_links pause g fits) (mem_group_links g g.n a b i j l)
+  pub link_copy : (a b : ℕ) → a < g.n → b < g.n → Link g a b → Link (heard_graph copy) a b
+  link_copy a b i j l = rw (copy_links v pause g fits) (mem_group_links g g.n a b i j l)
 
   -- each with the pause that is written with it
   pub copy_pause : (a b p : ℕ) → HeardOf copy a b p → p ≡ pause a b
   copy_pause a b p m =
-      let (l, i, e) = Memᴰ.of_map (paused pause) (group_links g g.n) (rw (copy_heard pause g fits) at m) in
+      let (l, i, e) = Memᴰ.of_map (paused pause) (group_links g g.n) (rw (copy_heard v pause g fits) at m) in
       let from : l.0 ≡ a = ap (λ (h : Heard). h.from) e in
       let to : l.1 ≡ b = ap (λ (h : Heard). h.to) e in
       sym (ap (λ (h : Heard). h.pause) e) ∙ ap₂ pause from to
 
-  pub copy_least : (a b : ℕ) → Link (graph copy) a b → least_pause copy a b ≡ pause a b
+  pub copy_least : (a b : ℕ) → Link (heard_graph copy) a b → least_pause copy a b ≡ pause a b
   copy_least a b l = copy_pause a b (least_pause copy a b) (least_pause_lem copy a b ((link_heard copy a b).0 l)).heard
 
   -- its own fair copy is the same words
-  pub fair_again : fair_words (content_of (copy_words pause g)) ≡ copy_words pause g
+  pub fair_again : fair_words (content_of (copy_words v pause g)) ≡ copy_words v pause g
   fair_again =
-      copy_by_links (least_pause copy) pause (graph copy) g (copy_episodes pause g fits)
-      (λ a b i j. (λ l. (copy_link a b l).2, link_copy a b (rw (copy_episodes pause g fits) at i) (rw (copy_episodes pause g fits) at j)))
-      (λ a b i j l. copy_least a b l)
+      copy_by_links (least_pause copy) pause (heard_graph copy) g (copy_episodes v pause g fits)
+      (λ a b i j. (λ l. (copy_link a b l).2, link_copy a b (rw (copy_episodes v pause g fits) at i) (rw (copy_episodes v pause g fits) at j)))
+      (λ a b i j l. copy_least a b l) copy.version
+      ∙ ap (λ (k : ℕ). copy_words k pause g) (copy_version v pause g fits)
 
   -- where all links join episodes, it has the same links
-  pub copy_same_links : EndsBelow g → SameLinks g (graph_of (copy_words pause g))
+  pub copy_same_links : EndsBelow g → SameLinks g (heard_graph copy)
   copy_same_links ends =
       record {
-        episodes = sym (copy_episodes pause g fits);
+        episodes = sym (copy_episodes v pause g fits);
         links = λ a b. (λ l. let e = ends a b l in link_copy a b e.0 e.1 l, λ l. (copy_link a b l).2);
       }
 
   -- it repeats no link
-  pub copy_nodup : Nodup (graph_of (copy_words pause g)).links
-  copy_nodup = rw (copy_links pause g fits) (group_links_nodup g g.n)
+  pub copy_nodup : Nodup (heard_graph copy).links
+  copy_nodup = rw (copy_links v pause g fits) (group_links_nodup g g.n)
 
   -- its links rise, by the earlier episode and then by the later one
-  pub copy_rising : IsChain Precedes (graph_of (copy_words pause g)).links
-  copy_rising = rw (copy_links pause g fits) (group_links_rising g g.n)
+  pub copy_rising : IsChain Precedes (heard_graph copy).links
+  copy_rising = rw (copy_links v pause g fits) (group_links_rising g g.n)
 
 -- a content and its fair copy agree, where all links join episodes
-module _ (c : Content) (fits : Fits (least_pause c) (graph c)) (ends : EndsBelow (graph c)) where
+module _ (c : Content) (fits : Fits c.version (least_pause c) (heard_graph c)) (ends : EndsBelow (heard_graph c)) where
   pub fair_same : SameContent c (content_of (fair_words c))
   fair_same =
-      let same = copy_same_links (least_pause c) (graph c) fits ends in
-      content_same same (λ a b l. sym (copy_least (least_pause c) (graph c) fits a b ((same.links a b).0 l)))
+      let same = copy_same_links c.version (least_pause c) (heard_graph c) fits ends in
+      content_same (sym (copy_version c.version (least_pause c) (heard_graph c) fits)) same
+      (λ a b l. sym (copy_least c.version (least_pause c) (heard_graph c) fits a b ((same.links a b).0 l)))
 
 -- two contents have the same fair copy exactly when they agree
-pub fair_equal : (c d : Content) → Fits (least_pause c) (graph c) → EndsBelow (graph c) → Fits (least_pause d) (graph d) → EndsBelow (graph d)
+pub fair_equal : (c d : Content) → Fits c.version (least_pause c) (heard_graph c) → EndsBelow (heard_graph c)
+    → Fits d.version (least_pause d) (heard_graph d) → EndsBelow (heard_graph d)
     → (fair_words c ≡ fair_words d) ↔ SameContent c d
 fair_equal c d cf ce df de =
     (λ e. content_trans (rw e at (fair_same c cf ce)) (content_sym (fair_same d df de)), same_fair c d)
@@ -125,42 +130,45 @@ fair_equal c d cf ce df de =
 -- the fair copy of a log `l` that passes with `n` episodes and `t` to words
 module _ (m : Ceilings) (l : List ℕ) (n t : ℕ) (e : questions m l ≡ given (n, t)) where
   -- what it tells fits its words
-  pub log_fits : Fits (least_pause (content_of l)) (graph_of l)
+  pub log_fits : Fits (content_of l).version (least_pause (content_of l)) (heard_graph (content_of l))
   log_fits =
       record {
-        few = number_lt (get_or l 0 0);
-        count = omega (arith, graph_count m l n t e, words_small m l n t e);
+        known = version_known m l n t e;
+        few = omega arith;
+        count = omega (arith, heard_links_count m l n t e, words_small m l n t e);
         links = λ a b k.
             let least = least_pause_lem (content_of l) a b ((link_heard (content_of l) a b).0 k) in
             content_fits l _ least.heard;
       }
 
   -- the copy passes, with the same episodes and one to word for each link
-  pub copy_read : questions m (fair_words (content_of l)) ≡ given (n, length (group_links (graph_of l) n))
+  pub copy_read : questions m (fair_words (content_of l)) ≡ given (n, length (group_links (heard_graph (content_of l)) n))
   copy_read =
       let fit : (graph_of l).n ≤ m.episodes = omega (arith, graph_episodes m l n t e, few_episodes m l n t e) in
-      let less = length_group_links (graph_of l) (graph_of l).n in
-      let room : length (group_links (graph_of l) (graph_of l).n) ≤ m.words = omega (arith, graph_count m l n t e, few_words m l n t e) in
-      copy_passes m (least_pause (content_of l)) (graph_of l) log_fits fit room
-      ∙ ap (λ (k : ℕ). given (k, length (group_links (graph_of l) k))) (graph_episodes m l n t e)
+      let heard : Graph = heard_graph (content_of l) in
+      let less = length_group_links heard (graph_of l).n in
+      let room : length (group_links heard (graph_of l).n) ≤ m.words = omega (arith, heard_links_count m l n t e, few_words m l n t e) in
+      copy_passes m (content_of l).version (least_pause (content_of l)) heard log_fits fit room
+      ∙ ap (λ (k : ℕ). given (k, length (group_links heard k))) (graph_episodes m l n t e)
 
-  -- that is one for each different link
-  pub copy_count : questions m (fair_words (content_of l)) ≡ given (n, link_count (graph_of l))
+  -- that is one for each different link that was heard
+  pub copy_count : questions m (fair_words (content_of l)) ≡ given (n, link_count (heard_graph (content_of l)))
   copy_count =
+      let heard : Graph = heard_graph (content_of l) in
       copy_read
       ∙ ap (λ (k : ℕ). given (n, k))
-      (ap (λ (k : ℕ). length (group_links (graph_of l) k)) (sym (graph_episodes m l n t e)) ∙ group_links_count (graph_of l) (links_below m l n t e))
+      (ap (λ (k : ℕ). length (group_links heard k)) (sym (graph_episodes m l n t e)) ∙ group_links_count heard (heard_below m l n t e))
 
-  -- it tells the same links with the same least pauses; so it has the same links
+  -- it tells the same version and the same links with the same least pauses; so the same links count
   pub copy_content : SameContent (content_of l) (content_of (fair_words (content_of l)))
-  copy_content = fair_same (content_of l) log_fits (links_below m l n t e)
+  copy_content = fair_same (content_of l) log_fits (heard_below m l n t e)
 
   -- each link is written with its least pause and no other
   pub copy_pauses : (a b p : ℕ) → HeardOf (content_of (fair_words (content_of l))) a b p ↔ LeastPause (content_of l) a b p
   copy_pauses a b p = (
     λ k.
         let one : (q : ℕ) × HeardOf (content_of (fair_words (content_of l))) a b q = (p, k) in
-        let same = copy_pause (least_pause (content_of l)) (graph_of l) log_fits a b p k in
+        let same = copy_pause (content_of l).version (least_pause (content_of l)) (heard_graph (content_of l)) log_fits a b p k in
         subst (LeastPause (content_of l) a b) (sym same) (least_pause_lem (content_of l) a b ((copy_content.links a b).1 one)),
     λ r. ((copy_content.pauses a b p).0 r).heard,
   )
@@ -169,19 +177,19 @@ module _ (m : Ceilings) (l : List ℕ) (n t : ℕ) (e : questions m l ≡ given 
   copy_same = same_links copy_content
 
   -- it repeats no link
-  pub copy_once : Nodup (graph_of (fair_words (content_of l))).links
-  copy_once = copy_nodup (least_pause (content_of l)) (graph_of l) log_fits
+  pub copy_once : Nodup (heard_graph (content_of (fair_words (content_of l)))).links
+  copy_once = copy_nodup (content_of l).version (least_pause (content_of l)) (heard_graph (content_of l)) log_fits
 
   -- its own fair copy is the same words
   pub copy_again : fair_words (content_of (fair_words (content_of l))) ≡ fair_words (content_of l)
-  copy_again = fair_again (least_pause (content_of l)) (graph_of l) log_fits
+  copy_again = fair_again (content_of l).version (least_pause (content_of l)) (heard_graph (content_of l)) log_fits
 
   -- it needs no more than `fair_need t` words
   pub copy_fits : length (fair_words (content_of l)) ≤ fair_need t
-  copy_fits = omega (arith, copy_words_fit (graph_of l) (least_pause (content_of l)), graph_count m l n t e)
+  copy_fits = omega (arith, copy_words_fit (heard_graph (content_of l)) (content_of l).version (least_pause (content_of l)), heard_links_count m l n t e)
 
--- two logs that pass, at any ceilings, have the same fair copy exactly when they agree in episodes, links and least pauses
+-- two logs that pass, at any ceilings, have the same fair copy exactly when they agree in version, episodes, links and least pauses
 pub copies_equal : (m m' : Ceilings) (l l' : List ℕ) (n n' t t' : ℕ) → questions m l ≡ given (n, t) → questions m' l' ≡ given (n', t')
     → (fair_words (content_of l) ≡ fair_words (content_of l')) ↔ SameContent (content_of l) (content_of l')
 copies_equal m m' l l' n n' t t' e e' =
-    fair_equal (content_of l) (content_of l') (log_fits m l n t e) (links_below m l n t e) (log_fits m' l' n' t' e') (links_below m' l' n' t' e')
+    fair_equal (content_of l) (content_of l') (log_fits m l n t e) (heard_below m l n t e) (log_fits m' l' n' t' e') (heard_below m' l' n' t' e')

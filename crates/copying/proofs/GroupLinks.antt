@@ -114,5 +114,5 @@ module _ (g : Graph) where
   length_groups pause (suc k) =
       simp (length-append, length-map) (omega (arith, length_groups pause k, length_group_le k (pause k) (linked_to k g.links g.n)))
 
-  pub copy_words_fit : (pause : ℕ → ℕ → ℕ) → length (copy_words pause g) ≤ fair_need (length g.links)
-  copy_words_fit pause = omega (arith, length_copy pause g, length_groups pause g.n, length_group_links g.n)
+  pub copy_words_fit : (v : ℕ) (pause : ℕ → ℕ → ℕ) → length (copy_words v pause g) ≤ fair_need (length g.links)
+  copy_words_fit v pause = omega (arith, length_copy pause g v, length_groups pause g.n, length_group_links g.n)

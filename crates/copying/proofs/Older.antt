@@ -4,18 +4,19 @@ use mathlib.Core.List.{List, [], ◌∷◌, ◌++◌, map_congr_left}
 use Prim.Native.Nat.{ℕ, zero, suc}
 use Rattle.paths.specs.Graph.{Graph, Link, SameLinks}
 use Rattle.logs.specs.Words.{word, to_word}
-use Rattle.logs.specs.Content.{SameContent, least_pause}
+use Rattle.logs.specs.Content.{heard_graph, SameContent, least_pause}
 use Rattle.logs.specs.Log.{content_of, graph_of}
 use Rattle.logs.specs.Earlier.{Older}
 use Rattle.logs.specs.Earlier as log-earlier
-use Rattle.logs.proofs.Words.{to_unpaused_lem}
+use Rattle.logs.proofs.Words.{head_unversioned, to_unpaused_lem}
 use Rattle.logs.proofs.Pauses.{least_pause_lem, link_heard, content_same}
-use Rattle.logs.proofs.Older.{graph_older, no_pause_lem}
+use Rattle.logs.proofs.Counts.{old_graph}
+use Rattle.logs.proofs.Older.{version_older, graph_older, no_pause_lem}
 use Rattle.copying.specs.FairCopy.{linked_to, group, groups, copy_words, fair_words}
 use Rattle.copying.specs.Earlier as earlier
 use Rattle.copying.proofs.FairCopies.{copy_by_links}
 
--- a copy in which every pause is 0 is laid out as it was
+-- a copy of version 0 in which every pause is 0 is laid out as it was
 group_earlier : (a : ℕ) (bs : List ℕ) → group a (λ b. 0) bs ≡ earlier.group a bs
 unfolding group earlier.group
 group_earlier a [] = refl
@@ -28,23 +29,30 @@ groups_earlier g zero = refl
 groups_earlier g (suc k) =
     ap₂ (λ (xs ys : List ℕ). xs ++ ys) (groups_earlier g k) (group_earlier k (linked_to k g.links g.n))
 
-pub copy_earlier : (g : Graph) → copy_words (λ a b. 0) g ≡ earlier.fair_words g
+pub copy_earlier : (g : Graph) → copy_words 0 (λ a b. 0) g ≡ earlier.fair_words g
 unfolding copy_words earlier.fair_words
-copy_earlier g = rw (groups_earlier g g.n)
+copy_earlier g = rw (groups_earlier g g.n, head_unversioned g.n)
 
 -- the least pauses of an older log are 0
 module _ (l : List ℕ) (older : Older l) where
-  least_older : (a b : ℕ) → Link (graph_of l) a b → least_pause (content_of l) a b ≡ 0
+  least_older : (a b : ℕ) → Link (heard_graph (content_of l)) a b → least_pause (content_of l) a b ≡ 0
   least_older a b k = no_pause_lem l older _ (least_pause_lem (content_of l) a b ((link_heard (content_of l) a b).0 k)).heard
 
-  unpaused : fair_words (content_of l) ≡ copy_words (λ a b. 0) (graph_of l)
+  unpaused : fair_words (content_of l) ≡ copy_words 0 (λ a b. 0) (heard_graph (content_of l))
   unpaused =
-      copy_by_links (least_pause (content_of l)) (λ a b. 0) (graph_of l) (graph_of l) refl (λ a b i j. (λ k. k, λ k. k)) (λ a b i j k. least_older a b k)
+      copy_by_links (least_pause (content_of l)) (λ a b. 0) (heard_graph (content_of l)) (heard_graph (content_of l)) refl (λ a b i j. (λ k. k, λ k. k))
+      (λ a b i j k. least_older a b k) (content_of l).version
+      ∙ ap (λ (v : ℕ). copy_words v (λ a b. 0) (heard_graph (content_of l))) (version_older l older)
 
   pub fair_older : fair_words (content_of l) ≡ earlier.fair_words (log-earlier.graph_of l)
-  fair_older = unpaused ∙ copy_earlier (graph_of l) ∙ ap earlier.fair_words (graph_older l older)
+  fair_older =
+      unpaused ∙ copy_earlier (heard_graph (content_of l))
+      ∙ ap earlier.fair_words (sym (old_graph (content_of l) (version_older l older)) ∙ graph_older l older)
 
 -- two older logs with the same links agree in their least pauses
 pub older_same : (l l' : List ℕ) → Older l → Older l' → SameLinks (graph_of l) (graph_of l') → SameContent (content_of l) (content_of l')
 older_same l l' older older' same =
-    content_same same (λ a b k. least_older l older a b k ∙ sym (least_older l' older' a b ((same.links a b).0 k)))
+    let heard : SameLinks (heard_graph (content_of l)) (heard_graph (content_of l')) =
+    rw (old_graph (content_of l) (version_older l older), old_graph (content_of l') (version_older l' older')) at same in
+    content_same (version_older l older ∙ sym (version_older l' older')) heard
+    (λ a b k. least_older l older a b k ∙ sym (least_older l' older' a b ((heard.links a b).0 k)))

@@ -1,4 +1,4 @@
--- A copy read back: it tells the links of its groups with their pauses, and it passes questions 1 to 10.
+-- A copy read back: it tells its version and the links of its groups with their pauses, and it passes questions 1 to 10 and 18.
 use mathlib.Core.Path.{◌≡◌, refl, ◌∙◌, ap, ap₂, sym}
 use mathlib.Core.Bool.{Bool, true, false, or-true}
 use mathlib.Core.List.Memᴰ.{head as here}
@@ -22,22 +22,23 @@ use lib.ListN.{length, length-append, length-map}
 use borrow.Author.Tests.{le-leb}
 use Rattle.order.specs.Order.{All}
 use Rattle.paths.specs.Graph.{Graph, Link}
-use Rattle.logs.specs.Words.{number, word, to_word, Small}
-use Rattle.logs.specs.Content.{Heard, joins}
+use Rattle.logs.specs.Words.{word, head_episodes, head_of, to_word, Small}
+use Rattle.logs.specs.Content.{Heard, joins, heard_graph}
 use Rattle.logs.specs.Answer.{Answer, given, and_then}
-use Rattle.logs.specs.Log.{head_word, onwards, questions, heard_from, content_of, graph_of}
+use Rattle.logs.specs.Log.{head_word, onwards, questions, heard_from, content_of}
 use Rattle.logs.specs.Groups.{last_from}
 use Rattle.logs.specs.declared.Ceilings.{Ceilings}
-use Rattle.logs.proofs.Words.{kind_word, number_word, to_kind, to_episode_lem, to_pause_lem}
+use Rattle.logs.proofs.Words.{kind_word, number_word, head_kind, head_version_lem, head_episodes_lem, to_kind, to_episode_lem, to_pause_lem}
 use Rattle.logs.proofs.Asked.{FromTaken, ToTaken, there_to, from_given, to_given, end_given}
 use Rattle.logs.proofs.Links.{heard_from_lem, heard_to, heard_end, heard_nil, heard_append}
 use Rattle.copying.specs.FairCopy.{linked_to, group, groups, group_links, copy_words}
 use Rattle.copying.proofs.Linked.{linked_to_mem}
 use Rattle.copying.proofs.GroupLinks.{links_of, length_group_links}
 
--- the numbers of a graph and the pauses of its links fit the words of a log
-pub record Fits (pause : ℕ → ℕ → ℕ) (g : Graph) : Type 0 where
-  pub few : Small g.n
+-- the version is known, and the numbers of a graph and the pauses of its links fit the words of a log
+pub record Fits (v : ℕ) (pause : ℕ → ℕ → ℕ) (g : Graph) : Type 0 where
+  pub known : v ≤ 1
+  pub few : g.n < 2 ^ 24
   pub count : Small (length g.links)
   pub links : (a b : ℕ) → Link g a b → (b < 2 ^ 16) × (pause a b < 2 ^ 12)
 
@@ -63,7 +64,7 @@ module _ (a : ℕ) (p : ℕ → ℕ) where
   group_heard c (b ∷ bs) s h =
       heard_from_lem c (word 2 a) (map (λ (d : ℕ). to_word d (p d)) (b ∷ bs)) (kind_word 2 a s) ∙ rw (number_word 2 a s) (to_heard (b ∷ bs) h)
 
-module _ (pause : ℕ → ℕ → ℕ) (g : Graph) (fits : Fits pause g) where
+module _ (v : ℕ) (pause : ℕ → ℕ → ℕ) (g : Graph) (fits : Fits v pause g) where
   -- what is written of the links of an episode fits
   row_fits : (a : ℕ) → All (λ b. (b < 2 ^ 16) × (pause a b < 2 ^ 12)) (linked_to a g.links g.n)
   row_fits a b m = fits.links a b (linked_to_mem a g.links b g.n m).1
@@ -85,11 +86,15 @@ module _ (pause : ℕ → ℕ → ℕ) (g : Graph) (fits : Fits pause g) where
   count_fits = omega (arith, fits.count, length_group_links g g.n)
 
   -- what the copy tells
-  pub copy_episodes : (content_of (copy_words pause g)).n ≡ g.n
+  pub copy_version : (content_of (copy_words v pause g)).version ≡ v
   unfolding copy_words
-  copy_episodes = number_word 1 g.n fits.few
+  copy_version = head_version_lem v g.n (omega (arith, fits.known)) fits.few
 
-  pub copy_heard : (content_of (copy_words pause g)).heard ≡ map (paused pause) (group_links g g.n)
+  pub copy_episodes : (content_of (copy_words v pause g)).n ≡ g.n
+  unfolding copy_words
+  copy_episodes = head_episodes_lem v g.n (omega (arith, fits.known)) fits.few
+
+  pub copy_heard : (content_of (copy_words v pause g)).heard ≡ map (paused pause) (group_links g g.n)
   unfolding copy_words
   copy_heard =
       let t : ℕ = length (group_links g g.n) in
@@ -97,7 +102,7 @@ module _ (pause : ℕ → ℕ → ℕ) (g : Graph) (fits : Fits pause g) where
       heard_append 0 (groups pause g g.n) (word 15 t ∷ [])
       ∙ rw (heard_end c (word 15 t) [] (kind_word 15 t count_fits), heard_nil, append-nil) (groups_heard 0 g.n (omega arith))
 
-  pub copy_links : (graph_of (copy_words pause g)).links ≡ group_links g g.n
+  pub copy_links : (heard_graph (content_of (copy_words v pause g))).links ≡ group_links g g.n
   copy_links = ap (map joins) copy_heard ∙ map-map joins (paused pause) (group_links g g.n) ∙ map-id (group_links g g.n)
 
 -- questions 4 to 10 of the words `s` behind the head, of which there is one or more
@@ -152,7 +157,7 @@ module _ (m : Ceilings) (n : ℕ) where
         (record { kind_from = kind_word 2 a small; to_follows = there_to tos 0 long (to_kind b (pause b) low short); below = rw (number_word 2 a small) i })
         ∙ over_tos (b ∷ bs) s t r h l room more (p + 1)
 
-module _ (m : Ceilings) (pause : ℕ → ℕ → ℕ) (g : Graph) (fits : Fits pause g) where
+module _ (m : Ceilings) (v : ℕ) (pause : ℕ → ℕ → ℕ) (g : Graph) (fits : Fits v pause g) where
   over_groups : (k : ℕ) → k ≤ g.n → length (group_links g k) ≤ m.words → (s : List ℕ) (r : Answer (ℕ × ℕ)) → 0 < length s
       → Answers m g.n s (length (group_links g k)) r → Answers m g.n (groups pause g k ++ s) 0 r
   unfolding groups group_links
@@ -164,27 +169,28 @@ module _ (m : Ceilings) (pause : ℕ → ℕ → ℕ) (g : Graph) (fits : Fits p
       rw append_assoc
       (over_groups k (omega arith) (omega arith) (group k (pause k) bs ++ s) r (simp length-append (omega arith))
       (over_group m g.n (pause k) k bs s (length (group_links g k)) r (omega arith) (omega arith)
-      (λ b i. let (low, short) = row_fits pause g fits k b i in ((linked_to_mem k g.links b g.n i).0, low, short)) l (omega arith)
+      (λ b i. let (low, short) = row_fits v pause g fits k b i in ((linked_to_mem k g.links b g.n i).0, low, short)) l (omega arith)
       (rw same at more)))
 
--- questions 1 to 10, of a head `w` with words behind it
+-- questions 1 to 10 and 18, of a head `w` with words behind it
 over_head : (m : Ceilings) (w : ℕ) (s : List ℕ) → 0 < length s
-    → questions m (w ∷ s) ≡ and_then (head_word m w) (over m (number w) 1 s false 0)
+    → questions m (w ∷ s) ≡ and_then (head_word m w) (over m (head_episodes w) 1 s false 0)
 unfolding questions
 over_head m w [] h = absurd (omega arith)
 over_head m w (x ∷ rest) h = refl
 
--- a copy passes questions 1 to 10 where its episodes and links fit the ceilings
-pub copy_passes : (m : Ceilings) (pause : ℕ → ℕ → ℕ) (g : Graph) → Fits pause g → g.n ≤ m.episodes
-    → length (group_links g g.n) ≤ m.words → questions m (copy_words pause g) ≡ given (g.n, length (group_links g g.n))
+-- a copy passes questions 1 to 10 and 18 where its episodes and links fit the ceilings
+pub copy_passes : (m : Ceilings) (v : ℕ) (pause : ℕ → ℕ → ℕ) (g : Graph) → Fits v pause g → g.n ≤ m.episodes
+    → length (group_links g g.n) ≤ m.words → questions m (copy_words v pause g) ≡ given (g.n, length (group_links g g.n))
 unfolding copy_words onwards
-copy_passes m pause g fits fit room =
+copy_passes m v pause g fits fit room =
     let n : ℕ = g.n in
     let t : ℕ = length (group_links g n) in
     let few = fits.few in
-    let small = count_fits pause g fits in
+    let small = count_fits v pause g fits in
+    let high : v < 2 ^ 4 = omega (arith, fits.known) in
     let end : List ℕ = word 15 t ∷ [] in
     let last : Answers m n end t (given (n, t)) = λ p before. rw (end_given p (word 15 t) t (kind_word 15 t small) (number_word 15 t small)) in
-    over_head m (word 1 n) (groups pause g n ++ end) (simp length-append (omega arith))
-    ∙ rw (kind_word 1 n few, number_word 1 n few, le-leb n m.episodes fit)
-    (over_groups m pause g fits n (omega arith) room end (given (n, t)) (omega arith) last 1 false)
+    over_head m (head_of v n) (groups pause g n ++ end) (simp length-append (omega arith))
+    ∙ rw (head_kind v n high few, head_version_lem v n high few, head_episodes_lem v n high few, le-leb v 1 fits.known, le-leb n m.episodes fit)
+    (over_groups m v pause g fits n (omega arith) room end (given (n, t)) (omega arith) last 1 false)

@@ -39,8 +39,8 @@ pub record Lowered (at p : ℕ) (w w' : List ℕ) : Type 0 where
 -- the links that the to words `ws` of a group of `a` give are marked where `a` is in the block, and `hs` were heard before
 pub record GroupTaken (block a : ℕ) (ws w w' : List ℕ) : Type 0 where
   pub same_length : length w' ≡ length w
-  pub marks : (n : ℕ) (hs : List Heard) → n ≤ 256 → BlockMarks block (record { n = n; heard = hs }) w
-      → BlockMarks block (record { n = n; heard = hs ++ map (told a) ws }) w'
+  pub marks : (v n : ℕ) (hs : List Heard) → n ≤ 256 → BlockMarks block (record { version = v; n = n; heard = hs }) w
+      → BlockMarks block (record { version = v; n = n; heard = hs ++ map (told a) ws }) w'
 
 -- whether the row has a mark at `b`
 abbrev pub marked_at : List ℕ → ℕ → Bool

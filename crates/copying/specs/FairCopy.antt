@@ -1,10 +1,10 @@
--- The fair copy of a log: each link once, in order, with its least pause.
+-- The fair copy of a log: its version, and each link that was heard, once, in order, with its least pause.
 use Rattle.std.specs.Prelude.{◌≡◌, ◌⊎◌, List, [], ◌∷◌, ◌++◌, map, ℕ, zero, suc, ◌+◌, ◌*◌, ◌<◌, length}
 use Rattle.paths.specs.Graph.{Graph}
 use Rattle.paths.specs.Links.{linked}
 use Rattle.paths.specs.Passing.{passing}
-use Rattle.logs.specs.Words.{word, to_word}
-use Rattle.logs.specs.Content.{Content, joins, least_pause}
+use Rattle.logs.specs.Words.{word, head_of, to_word}
+use Rattle.logs.specs.Content.{Content, heard_graph, least_pause}
 
 -- the episodes below `k` that `a` is linked to, rising
 abbrev pub linked_to : ℕ → List (ℕ × ℕ) → ℕ → List ℕ
@@ -25,13 +25,17 @@ unfoldable pub group_links : Graph → ℕ → List (ℕ × ℕ)
 group_links g zero = []
 group_links g (suc a) = group_links g a ++ map (λ (b : ℕ). (a, b)) (linked_to a g.links g.n)
 
--- the layout of a copy: the head, the groups, and the end with the count of to words
-unfoldable pub copy_words : (ℕ → ℕ → ℕ) → Graph → List ℕ
-copy_words pause g = word 1 g.n ∷ groups pause g g.n ++ word 15 (length (group_links g g.n)) ∷ []
+-- the layout of a copy of version `v`: the head, the groups, and the end with the count of to words
+unfoldable pub copy_words : ℕ → (ℕ → ℕ → ℕ) → Graph → List ℕ
+copy_words v pause g = head_of v g.n ∷ groups pause g g.n ++ word 15 (length (group_links g g.n)) ∷ []
 
--- the fair copy: each link that was heard, with its least pause
+-- how many words a copy has, whatever its version
+abbrev pub copy_length : (ℕ → ℕ → ℕ) → Graph → ℕ
+copy_length pause g = 1 + length (groups pause g g.n) + 1
+
+-- the fair copy: the version, and each link that was heard, with its least pause
 abbrev pub fair_words : Content → List ℕ
-fair_words c = copy_words (least_pause c) (record { n = c.n; links = map joins c.heard })
+fair_words c = copy_words c.version (least_pause c) (heard_graph c)
 
 -- one link comes before another: by the earlier episode, then by the later one
 abbrev pub Precedes : ℕ × ℕ → ℕ × ℕ → Type 0

@@ -4,17 +4,17 @@
 #![tactic(auto)]
 
 ghost use Rattle.std.specs.Prelude.{◌≡◌, ◌≢◌, List, ℕ, ◌/◌, ◌%◌, ◌^◌, ◌<◌, ◌≤◌, length, get_or, replicate, set};
-ghost use Rattle.logs.specs.Words.{word, Small};
-ghost use Rattle.logs.specs.Content.{least_pause};
-ghost use Rattle.logs.specs.Log.{content_of, graph_of};
+ghost use Rattle.logs.specs.Words.{word, head_of, Small};
+ghost use Rattle.logs.specs.Content.{heard_graph, least_pause};
+ghost use Rattle.logs.specs.Log.{content_of};
 ghost use Rattle.logs.specs.Groups.{EpisodesBelow};
 ghost use Rattle.writing.specs.Layout.{BeginsWith};
-ghost use Rattle.copying.specs.FairCopy.{linked_to, group, copy_words, fair_words};
+ghost use Rattle.copying.specs.FairCopy.{linked_to, group, copy_words, copy_length, fair_words};
 ghost use Rattle.copying.specs.Calls.{WritesLinks};
 ghost use Rattle.paths.specs.Graph.{Graph};
 ghost use Rattle.copying.specs.Copying.{BlockMarks, Lowered, GroupTaken, marked, pause_at, group_length, LinksWritten, GroupWritten, GroupsWritten};
 
-use logs::{Group, Kind, Log, ToWord};
+use logs::{Group, Head, Kind, Log, ToWord};
 
 // The words of a block: as many as the work words of a call (`report::WORK_WORDS`), which are lent for it.
 pub const BLOCK: usize = 16384;
@@ -115,8 +115,8 @@ fn write_groups<F: FnMut(usize, &mut [u32]) -> usize>(
     mut write_row: F,
 ) -> Written
     requires { (pause : ℕ → ℕ → ℕ) × (g : Graph) × WritesLinks F.pre F.step pause g write_row × (g.n ≡ n) × Small n
-        × Small (length g.links) × (length (copy_words pause g) ≤ length out.old) }
-    ensures { (pause : ℕ → ℕ → ℕ) (g : Graph) → WritesLinks F.pre F.step pause g write_row → g.n ≡ n → length (copy_words pause g) ≤ length out.old
+        × Small (length g.links) × (copy_length pause g ≤ length out.old) }
+    ensures { (pause : ℕ → ℕ → ℕ) (g : Graph) → WritesLinks F.pre F.step pause g write_row → g.n ≡ n → copy_length pause g ≤ length out.old
         → GroupsWritten pause g out.old out.new result.words result.links }
 {
     let mut words = 1;
@@ -132,27 +132,27 @@ fn write_groups<F: FnMut(usize, &mut [u32]) -> usize>(
 }
 
 // Writes the head before the groups and the end behind them.
-pub fn write_ends(n: usize, words: usize, links: usize, out: &mut [u32])
-    requires { Small n × Small links × (words < length out.old) }
-    ensures { out.new ≡ set (set out.old 0 (word 1 n)) words (word 15 links) }
+fn write_ends(head: Head, words: usize, links: usize, out: &mut [u32])
+    requires { (head.version < 2 ^ 4) × (head.episodes < 2 ^ 24) × Small links × (words < length out.old) }
+    ensures { out.new ≡ set (set out.old 0 (head_of head.version head.episodes)) words (word 15 links) }
 {
-    out[0] = Kind::Head.word(n);
+    out[0] = head.word();
     out[words] = Kind::End.word(links);
 }
 
-// Writes a copy with `n` episodes, the links of each by a call of `write_row`, and gives its count of words.
+// Writes a copy with this head, the links of each episode by a call of `write_row`, and gives its count of words.
 pub fn write_by_rows<F: FnMut(usize, &mut [u32]) -> usize>(
-    n: usize,
+    head: Head,
     out: &mut [u32],
     write_row: F,
 ) -> usize
-    requires { (pause : ℕ → ℕ → ℕ) × (g : Graph) × WritesLinks F.pre F.step pause g write_row × (g.n ≡ n) × Small n
-        × Small (length g.links) × (length (copy_words pause g) ≤ length out.old) }
-    ensures { (pause : ℕ → ℕ → ℕ) (g : Graph) → WritesLinks F.pre F.step pause g write_row → g.n ≡ n → length (copy_words pause g) ≤ length out.old
-        → (result ≡ length (copy_words pause g)) × BeginsWith (copy_words pause g) out.old out.new }
+    requires { (pause : ℕ → ℕ → ℕ) × (g : Graph) × WritesLinks F.pre F.step pause g write_row × (g.n ≡ head.episodes) × (head.version < 2 ^ 4)
+        × (head.episodes < 2 ^ 24) × Small (length g.links) × (copy_length pause g ≤ length out.old) }
+    ensures { (pause : ℕ → ℕ → ℕ) (g : Graph) → WritesLinks F.pre F.step pause g write_row → g.n ≡ head.episodes → copy_length pause g ≤ length out.old
+        → (result ≡ length (copy_words head.version pause g)) × BeginsWith (copy_words head.version pause g) out.old out.new }
 {
-    let groups = write_groups(n, out, write_row);
-    write_ends(n, groups.words, groups.links, out);
+    let groups = write_groups(head.episodes, out, write_row);
+    write_ends(head, groups.words, groups.links, out);
     groups.words + 1
 }
 
@@ -162,15 +162,20 @@ pub fn write_copy(log: Log, out: &mut [u32], w: &mut [u32; BLOCK]) -> usize
     ensures { (result ≡ length (fair_words (content_of log.entry.words.now)))
         × BeginsWith (fair_words (content_of log.entry.words.now)) out.old out.new }
 {
+    let head = Head {
+        version: log.version(),
+        episodes: log.episodes,
+    };
     write_by_rows(
-        log.episodes,
+        head,
         out,
         |a, rest|
             requires { (log.episodes ≤ 256) × (a < log.episodes) × (a % 64 ≢ 0 → BlockMarks (a / 64) (content_of log.words.now) w.now)
-                × (length (group a (least_pause (content_of log.words.now) a) (linked_to a (graph_of log.words.now).links log.episodes)) < length rest.old) }
+                × (length (group a (least_pause (content_of log.words.now) a) (linked_to a (heard_graph (content_of log.words.now)).links log.episodes))
+                < length rest.old) }
             ensures { BlockMarks (a / 64) (content_of log.entry.words.now) w.exit.now
-                × LinksWritten (least_pause (content_of log.entry.words.now) a) (linked_to a (graph_of log.entry.words.now).links log.entry.episodes)
-                rest.old rest.new result }
+                × LinksWritten (least_pause (content_of log.entry.words.now) a)
+                (linked_to a (heard_graph (content_of log.entry.words.now)).links log.entry.episodes) rest.old rest.new result }
         {
             block_of(log, a, w);
             let marks = &*w;

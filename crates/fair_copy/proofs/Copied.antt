@@ -5,7 +5,7 @@ use mathlib.Core.List.{List, ◌++◌}
 use Prim.Native.Nat.{ℕ}
 use lib.ListN.{length, take, drop}
 use Rattle.logs.specs.Answer.{given, refused, reason_number}
-use Rattle.logs.specs.Log.{questions, content_of, graph_of}
+use Rattle.logs.specs.Log.{questions, content_of, graph_of, heard_count}
 use Rattle.std.specs.Prelude.{Result, Ok, Err}
 use Rattle.logs.specs.declared.Ceilings.{Ceilings}
 use Rattle.logs.specs.declared.Refusal.{Refusal}
@@ -19,8 +19,8 @@ use Rattle.report.proofs.Outcomes.{Leaves, denied, gave}
 
 -- What a call with the outcome of a copy leaves: `c` is the count of its words.
 pub record CopyGiven (m : Ceilings) (l o w o' w' : List ℕ) (c : ℕ) : Type 0 where
-  pub passes : copy_asked m l (length o) (length w) ≡ given ((graph_of l).n, length (graph_of l).links)
-  pub read : questions m l ≡ given ((graph_of l).n, length (graph_of l).links)
+  pub passes : copy_asked m l (length o) (length w) ≡ given ((graph_of l).n, heard_count l)
+  pub read : questions m l ≡ given ((graph_of l).n, heard_count l)
   pub words : take c o' ≡ fair_words (content_of l)
   pub count : c ≡ length (fair_words (content_of l))
   pub unchanged : o' ≡ take c o' ++ drop c o
@@ -33,7 +33,7 @@ module _ (m : Ceilings) (l o w o' w' : List ℕ) where
       let (words, unchanged) = begins_words (fair_words (content_of l)) o o' begins c count in
       record {
         passes = passes;
-        read = (asked_given m (λ n t. fair_need t) l (length o) (length w) (graph_of l).n (length (graph_of l).links) passes).0;
+        read = (asked_given m (λ n t. fair_need t) l (length o) (length w) (graph_of l).n (heard_count l) passes).0;
         words = words;
         count = sym count;
         unchanged = unchanged;
@@ -41,7 +41,7 @@ module _ (m : Ceilings) (l o w o' w' : List ℕ) where
       }
 
   leaves : (r : Result ℕ Refusal) → CopyLeft m l o w o' w' r
-      → Leaves (copy_asked m l (length o) (length w)) ((graph_of l).n, length (graph_of l).links) (CopyGiven m l o w o' w') (λ k. ⊥) ((o' ≡ o) × (w' ≡ w))
+      → Leaves (copy_asked m l (length o) (length w)) ((graph_of l).n, heard_count l) (CopyGiven m l o w o' w') (λ k. ⊥) ((o' ≡ o) × (w' ≡ w))
       (copy_answer r)
   unfolding CopyLeft
   leaves (Ok c) left = gave c refl left.0 (copied_left c left)
@@ -52,7 +52,7 @@ module _ (m : Ceilings) (l o w o' w' : List ℕ) where
   given_left r c left e = (outcomes.given_gave (leaves r left) c e).1
 
   -- a call whose questions are answered yes gives a count
-  pub asked_given_count : (r : Result ℕ Refusal) → copy_asked m l (length o) (length w) ≡ given ((graph_of l).n, length (graph_of l).links)
+  pub asked_given_count : (r : Result ℕ Refusal) → copy_asked m l (length o) (length w) ≡ given ((graph_of l).n, heard_count l)
       → CopyLeft m l o w o' w' r → (c : ℕ) × (copy_answer r ≡ given c)
   asked_given_count r passes left =
       ⊎_elim (λ (c, e, d). (c, e)) (λ (k, e, none). absurd none) (outcomes.asked_yes (leaves r left) passes)

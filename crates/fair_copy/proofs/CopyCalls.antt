@@ -5,10 +5,10 @@ use Prim.Native.Nat.{ℕ, ◌≤◌}
 use lib.ListN.{length}
 use Rattle.std.specs.Prelude.{Ok, Err}
 use Rattle.logs.specs.Answer.{given, refused, reason_number}
-use Rattle.logs.specs.Log.{questions, content_of, graph_of}
+use Rattle.logs.specs.Log.{questions, content_of, graph_of, heard_count}
 use Rattle.logs.specs.declared.Ceilings.{Ceilings}
 use Rattle.logs.specs.declared.Refusal.{Refusal}
-use Rattle.logs.proofs.Laws.{graph_episodes, graph_count}
+use Rattle.logs.proofs.Laws.{graph_episodes, heard_count_words}
 use Rattle.writing.specs.Layout.{BeginsWith}
 use Rattle.copying.specs.FairCopy.{fair_words, fair_need}
 use Rattle.report.specs.Report.{work_words, cleared}
@@ -28,10 +28,10 @@ copy_passed m l {out} {work} {n} {t} e = asked_given m (λ j u. fair_need u) l o
 
 -- questions that are answered yes were asked of the graph
 pub asked_graph : (m : Ceilings) (l : List ℕ) (out work n t : ℕ) → copy_asked m l out work ≡ given (n, t)
-    → copy_asked m l out work ≡ given ((graph_of l).n, length (graph_of l).links)
+    → copy_asked m l out work ≡ given ((graph_of l).n, heard_count l)
 asked_graph m l out work n t e =
     let read = (asked_given m (λ j u. fair_need u) l out work n t e).0 in
-    rw (graph_episodes m l n t read, graph_count m l n t read) e
+    rw (graph_episodes m l n t read, heard_count_words m l n t read) e
 
 -- copied
 pub copy_left : (m : Ceilings) (l o w : List ℕ) (n t : ℕ) → copy_asked m l (length o) (length w) ≡ given (n, t) → (o' : List ℕ) {w' : List ℕ} {c : ℕ}

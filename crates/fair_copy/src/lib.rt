@@ -24,7 +24,7 @@ fn copy(log: Log, out: &mut [u32], work: &mut [u32; WORK_WORDS]) -> usize
     words
 }
 
-// Questions 1 to 12 of a copy of a log, at a caller's ceilings, with so many words lent.
+// Questions 1 to 12 and 18 of a copy of a log, at a caller's ceilings, with so many words lent.
 #[tactic(auto, using(logs::proofs::Laws::words_small))]
 pub fn copy_asked(
     most: Ceilings,

@@ -1,14 +1,22 @@
--- Counting links: the rows hold those that were heard, and their count is that of the different ones.
+-- Counting links: the rows hold those that a counter has heard, and their count is that of the different ones.
 use mathlib.Core.Path.{◌≡◌, refl, ◌∙◌}
-use mathlib.Core.List.{List, [], ◌∷◌, ◌++◌}
-use Prim.Native.Nat.{ℕ, ◌+◌, ◌*◌, ◌<◌, ◌≤◌, ◌^◌}
+use mathlib.Core.Bool.{Bool, true, false, not, ◌&&◌}
+use mathlib.Core.List.{List, [], ◌∷◌, ◌++◌, append-nil}
+use Prim.Native.Nat.{ℕ, zero, suc, ◌+◌, ◌*◌, ◌<◌, ◌≤◌, ◌^◌}
 use native.Mathlib.Decide.{ℕ_discrete}
+use native.Mathlib.Nat.{add-zero}
 use native.Mathlib.Omega.{arith}
+use lib.Dec.{eqb}
 use lib.ListN.{length, replicate, length-replicate, get_or-replicate}
-use Rattle.paths.specs.Links.{distinct}
-use Rattle.paths.proofs.Links.{distinct_again, distinct_new, count_few}
-use Rattle.logs.specs.Hear.{Next}
-use Rattle.bits.specs.Bits.{bit, BitSet}
+use mir.Val.{bool_byte}
+use Rattle.paths.specs.Graph.{SameLinks}
+use Rattle.paths.specs.Links.{distinct, link_count}
+use Rattle.paths.proofs.Links.{distinct_again, distinct_new, count_few, count_same}
+use Rattle.logs.specs.Log.{graph_of}
+use Rattle.logs.specs.Groups.{short_links}
+use Rattle.logs.specs.Hear.{Next, where_short}
+use Rattle.logs.proofs.Laws.{short_counts}
+use Rattle.bits.specs.Bits.{bit, BitSet, SetWhere}
 use Rattle.bits.specs.Work.{matrix_words}
 use Rattle.bits.proofs.Rows.{bit_lt}
 use Rattle.bits.proofs.Pairs.{no_pairs, one_pair_more}
@@ -30,10 +38,10 @@ module _ (seen : List ℕ) (count row to : ℕ) (next : Next (λ n. n ≤ 256) (
   pub has_room : (more : ℕ) → more ≤ 1 → count + more < 2 ^ 64
   has_room more one = omega (arith, next.room, next.before.counted, count_few (record { n = 0; links = next.links }))
 
-  -- it counts unless it is marked
-  pub one_counted : (more : ℕ) (seen' : List ℕ) → BitSet seen seen' row to → more + bit seen row to ≡ 1
+  -- one whose pause lets it count is counted unless it is marked
+  new_counted : (more : ℕ) (seen' : List ℕ) → BitSet seen seen' row to → more + bit seen row to ≡ 1
       → Counted seen' (count + more) (next.links ++ (next.from, to) ∷ [])
-  one_counted more seen' set one =
+  new_counted more seen' set one =
       let here : row ≡ 0 + 8 * next.from = omega (arith, next.its_row) in
       record {
         words = set.same_length ∙ next.before.words;
@@ -54,3 +62,20 @@ module _ (seen : List ℕ) (count row to : ℕ) (next : Next (λ n. n ≤ 256) (
       counted (yes held) here =
           let m = next.before.marked.sound next.from to near low (rw here at held) in
           omega (arith, distinct_again next.links next.from to m, next.before.counted)
+
+  -- another is not
+  pub one_counted : (short : Bool) (seen' : List ℕ) → SetWhere short seen seen' row to
+      → Counted seen' (count + bool_byte (short && not (eqb (bit seen row to) 1))) (next.links ++ where_short short (next.from, to))
+  one_counted true seen' set = new_counted (bool_byte (not (eqb (bit seen row to) 1))) seen' set (unmarked (bit seen row to) (bit_lt seen row to))
+    where
+      unmarked : (d : ℕ) → d < 2 → bool_byte (not (eqb d 1)) + d ≡ 1
+      unmarked zero h = refl
+      unmarked (suc zero) h = refl
+      unmarked (suc (suc d)) h = absurd (omega arith)
+  one_counted false seen' none = rw (none, append-nil, add-zero) next.before
+
+-- the links of a log that count by their own pause are those of its graph
+pub count_of_log : (l seen : List ℕ) (count : ℕ) → Counted seen count (short_links l) → count ≡ link_count (graph_of l)
+count_of_log l seen count all =
+    let same : SameLinks (record { n = (graph_of l).n; links = short_links l }) (graph_of l) = record { episodes = refl; links = short_counts l } in
+    all.counted ∙ count_same same

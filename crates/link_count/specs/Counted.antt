@@ -12,11 +12,11 @@ use Rattle.bits.specs.Work.{matrix_words, Matrix}
 abbrev pub count_answer : Result ℕ Refusal → Answer ℕ
 count_answer = result_answer (λ k. k)
 
--- Questions 1 to 10, then the link count of the log's graph.
+-- Questions 1 to 10 and 18, then the link count of the log's graph.
 abbrev pub count_asked : Ceilings → List ℕ → Answer ℕ
 count_asked m l = and_then (questions m l) (given (link_count (graph_of l)))
 
--- `seen` has a row of bits for each episode, in which the links that were heard are marked, and `count` of them are different.
+-- `seen` has a row of bits for each episode, in which the links that a counter has heard are marked, and `count` of them are different.
 pub record Counted (seen : List ℕ) (count : ℕ) (heard : List (ℕ × ℕ)) : Type 0 where
   pub words : length seen ≡ matrix_words
   pub marked : Matrix 0 seen (λ a b. Mem (a, b) heard)

@@ -1,9 +1,9 @@
-// The link count of a log: how many different links it has. The limit of 256 episodes is that of the matrix; a log passes at any ceilings.
+// The link count of a log: how many different links of it count. The limit of 256 episodes is that of the matrix; a log passes at any ceilings.
 #![tactic(auto)]
 
-ghost use Rattle.std.specs.Prelude.{◌≡◌, ℕ, ◌+◌, ◌*◌, ◌/◌, ◌<◌, ◌≤◌, eqb, length};
+ghost use Rattle.std.specs.Prelude.{◌≡◌, not, ◌&&◌, ℕ, ◌+◌, ◌*◌, ◌/◌, ◌<◌, ◌≤◌, eqb, length};
 ghost use Rattle.logs.specs.Log.{service};
-ghost use Rattle.bits.specs.Bits.{bit, BitSet};
+ghost use Rattle.bits.specs.Bits.{bit, SetWhere};
 ghost use Rattle.link_count.specs.Counted.{Counted, count_answer, count_asked};
 
 use logs::{Ceilings, Hear, Refusal};
@@ -11,14 +11,15 @@ use logs::{Ceilings, Hear, Refusal};
 // The words of a matrix of bits, a row of 8 words for each of 256 episodes.
 const MATRIX: usize = 2048;
 
-// Marks the link to episode `to` in the row of its from word, which starts at word `row`; says whether it was marked before.
-fn mark(seen: &mut [u32; MATRIX], row: usize, to: usize) -> bool
+// Marks the link to episode `to` in the row of its from word, which starts at word `row`, where its pause is short enough; says whether it is and the
+// link was not marked before. Neither is branched on, since the processor could not foresee it.
+fn mark(seen: &mut [u32; MATRIX], row: usize, to: usize, short: bool) -> bool
     requires { row + to / 32 < length seen.old }
-    ensures { BitSet seen.old seen.new row to × (result ≡ eqb (bit seen.old row to) 1) }
+    ensures { SetWhere short seen.old seen.new row to × (result ≡ (short && not (eqb (bit seen.old row to) 1))) }
 {
     let before = bits::bit_at(seen, row, to);
-    bits::set_bit(seen, row, to);
-    before
+    bits::set_bit_where(seen, row, to, short);
+    short && !before
 }
 
 // Counts the different links that it hears. Each is marked in `seen`, a row of bits for each episode, and counted where it was not marked before.
@@ -42,13 +43,13 @@ impl<'a> Hear for Counter<'a> {
         8 * from
     }
 
-    fn hear(&mut self, row: usize, to: usize) {
-        self.links += usize::from(!mark(self.seen, row, to));
+    fn hear(&mut self, row: usize, to: usize, short: bool) {
+        self.links += usize::from(mark(self.seen, row, to, short));
     }
 }
 
 // The link count at a caller's ceilings, in one pass over the log.
-#[tactic(auto, using(crate::proofs::Counting::none_counted))]
+#[tactic(auto, using(crate::proofs::Counting::none_counted, crate::proofs::Counting::count_of_log))]
 fn link_count_within(most: Ceilings, log: &[u32]) -> Result<usize, Refusal>
     requires { most.episodes ≤ 256 }
     ensures { count_answer result ≡ count_asked most log.now }

@@ -11,7 +11,7 @@ use lib.Dec.{ltb, leb, eqb}
 use lib.ListN.{length, get_or, drop, length-drop}
 use lib.Seq.{get_or-drop}
 use borrow.Author.Tests.{lt-ltb, leb-true, ltb-true, eqb-true, eqb-false, eq-eqb, ne_eqb}
-use Rattle.logs.specs.Words.{kind, number, to_episode, to_pause, kind_code}
+use Rattle.logs.specs.Words.{kind, number, head_episodes, head_version, to_episode, to_pause, kind_code}
 use Rattle.logs.specs.Answer.{Answer, given, refused, question, and_then}
 use Rattle.logs.specs.Log.{to_before_last, head_word, group_word, end_word}
 use Rattle.logs.specs.declared.Ceilings.{Ceilings}
@@ -35,6 +35,22 @@ module _ {A B : Type 0} where
   pub then_refused : (x : Answer A) (b : B) (q p : ℕ) → (and_then x (given b) ≡ refused q p) ↔ (x ≡ refused q p)
   then_refused (given a) b q p = (λ e. absurd (not_both (given b) b q p refl e), λ e. absurd (not_both (given a) a q p refl e))
   then_refused (refused j x) b q p = (λ e. cc e, λ e. cc e)
+
+-- what is asked behind a word does not depend on the figures that the word gives
+module _ {A B C : Type 0} (x : A) (y : B) (next : Answer C) (p : ℕ) where
+  pub same_two : (k j q : ℕ) (a b : Bool)
+      → and_then (question k q a (question j q b (given x))) next ≡ and_then (question k q a (question j q b (given y))) next
+  same_two k j q true true = refl
+  same_two k j q true false = refl
+  same_two k j q false b = refl
+
+  pub same_five : (a b c d e : Bool)
+      → and_then (question 4 p a (question 5 p b (question 6 p c (question 7 p d (question 8 p e (given x)))))) next
+      ≡ and_then (question 4 p a (question 5 p b (question 6 p c (question 7 p d (question 8 p e (given y)))))) next
+  same_five true true true d e = same_two 7 8 p d e
+  same_five true true false d e = refl
+  same_five true false c d e = refl
+  same_five false b c d e = refl
 
 -- two tests whose facts follow from each other
 same_test : (a b c d : ℕ) → (a < b → c < d) → (c < d → a < b) → ltb a b ≡ ltb c d
@@ -129,11 +145,18 @@ group_taken m n p w rest from t a e = by_kind (eqb (kind w) 2) (eqb (kind w) 3) 
 
 -- what the questions say of a head that is taken
 pub head_passed : (m : Ceilings) (w : ℕ) (a : ℕ × ℕ × ℕ) → head_word m w ≡ given a
-    → (kind w ≡ 1) × (number w ≤ m.episodes) × (◌≡◌ {A = ℕ × ℕ × ℕ} (kind w, number w, 0) a)
+    → (kind w ≡ 1) × (head_version w ≤ 1) × (head_episodes w ≤ m.episodes) × (◌≡◌ {A = ℕ × ℕ × ℕ} (kind w, head_episodes w, head_version w) a)
 head_passed m w a e =
-    let two = asked 2 0 (eqb (kind w) 1) (question 3 0 (leb (number w) m.episodes) (given (kind w, number w, 0))) a e in
-    let three = asked 3 0 (leb (number w) m.episodes) (given (kind w, number w, 0)) a two.1 in
-    (eqb-true (kind w) 1 two.0, leb-true (number w) m.episodes three.0, cc three.1)
+    let taken : Answer (ℕ × ℕ × ℕ) = given (kind w, head_episodes w, head_version w) in
+    let few : Answer (ℕ × ℕ × ℕ) = question 3 0 (leb (head_episodes w) m.episodes) taken in
+    let two = asked 2 0 (eqb (kind w) 1) (question 18 0 (leb (head_version w) 1) few) a e in
+    let eighteen = asked 18 0 (leb (head_version w) 1) few a two.1 in
+    let three = asked 3 0 (leb (head_episodes w) m.episodes) taken a eighteen.1 in (
+      eqb-true (kind w) 1 two.0,
+      leb-true (head_version w) 1 eighteen.0,
+      leb-true (head_episodes w) m.episodes three.0,
+      cc three.1,
+    )
 
 -- and of a last word that is taken
 pub end_taken : (p w t : ℕ) (a : ℕ × ℕ × ℕ) → end_word p w t ≡ given a → (kind w ≡ 15) × (number w ≡ t)

@@ -133,15 +133,15 @@ module _ (m : Ceilings) (l : List ℕ) (n p t : ℕ) where
           same = sym (step_to m l n p true t (to_figures w) there.0 (sym all_asked ∙ ap (result_answer to_figures) is) there.1) ∙ g.same;
         }
 
-    -- it gives its episode
-    pub to_episode_lem : (w : ToWord) → r ≡ Ok w → (w.episode ≡ to_episode (get_or l p 0)) × (w.episode < n)
-    to_episode_lem w is =
+    -- it gives its episode and its pause
+    pub to_read : (w : ToWord) → r ≡ Ok w → (w.episode ≡ to_episode (get_or l p 0)) × (w.pause ≡ to_pause (get_or l p 0)) × (w.episode < n)
+    to_read w is =
         let next : Answer (ℕ × ℕ × ℕ) = question 8 p (ltb t m.words) (given (3, to_episode (get_or l p 0), to_pause (get_or l p 0))) in
         let seven = asked 7 p (ltb (to_episode (get_or l p 0)) n) next (to_figures w) (sym e ∙ ap (result_answer to_figures) is) in
         let eight = asked 8 p (ltb t m.words) (given (3, to_episode (get_or l p 0), to_pause (get_or l p 0))) (to_figures w) seven.1 in
         let same : ◌≡◌ {A = ℕ × ℕ × ℕ} (to_figures w) (3, to_episode (get_or l p 0), to_pause (get_or l p 0)) = cc eight.1 in
         let episode : w.episode ≡ to_episode (get_or l p 0) = ap (λ (v : ℕ × ℕ × ℕ). v.1) same in
-        (episode, omega (arith, ltb-true (to_episode (get_or l p 0)) n seven.0))
+        (episode, ap (λ (v : ℕ × ℕ × ℕ). v.2) same, omega (arith, ltb-true (to_episode (get_or l p 0)) n seven.0))
 
     pub to_given_up : (f : Refusal) → r ≡ Err f → Stopped m l n p t
     to_given_up f is =

@@ -60,10 +60,10 @@ module _ (w : ℕ) (rest : List ℕ) where
   count_end k = rw (to_words, k)
 
 -- each to word gives one link
-pub heard_count : (a : ℕ) (s : List ℕ) → length (heard_from a s) ≡ to_words s
+pub heard_count_lem : (a : ℕ) (s : List ℕ) → length (heard_from a s) ≡ to_words s
 unfolding heard_from to_words
-heard_count a [] = refl
-heard_count a (w ∷ rest) = by_kind (is_from w) (is_to w) refl refl (λ b. heard_count b rest)
+heard_count_lem a [] = refl
+heard_count_lem a (w ∷ rest) = by_kind (is_from w) (is_to w) refl refl (λ b. heard_count_lem b rest)
   where
     by_kind : (x y : Bool) → is_from w ≡ x → is_to w ≡ y → ((b : ℕ) → length (heard_from b rest) ≡ to_words rest)
         → length (heard_from a (w ∷ rest)) ≡ to_words (w ∷ rest)

@@ -9,13 +9,14 @@ use lib.Seq.{take-suc, length-take-le, get_or-take, get_or-drop}
 use Rattle.logs.proofs.Words.{figure_from, figure_to}
 use Rattle.logs.proofs.WellFormed.{WellFormed, well_formed}
 use Rattle.logs.specs.Words.{to_episode}
-use Rattle.logs.specs.Content.{joins}
-use Rattle.logs.specs.Log.{to_before_last}
-use Rattle.logs.specs.Groups.{heard_before, links_before, nearest_from, ToWords, told}
+use Rattle.logs.specs.Content.{Heard, joins, short_of}
+use Rattle.logs.specs.Log.{to_before_last, content_of}
+use Rattle.logs.specs.Groups.{heard_before, short_before, nearest_from, ToWords, told}
 use Rattle.logs.specs.Passing.{Given}
 use Rattle.logs.specs.declared.passed.Group.{Group}
 use Rattle.logs.specs.declared.passed.Groups.{Groups}
 use Rattle.logs.proofs.Asked.{to_there}
+use Rattle.logs.proofs.Counts.{short_more}
 use Rattle.logs.proofs.Laws.{pass_from, pass_to}
 use Rattle.logs.proofs.Walk.{up}
 
@@ -71,16 +72,14 @@ heard_group s g t d =
     words ∙ ap (λ h. h ++ map (told a) q) same ∙ ap (λ b. heard_before l s.at ++ map (told b) q) (near ∙ sym d.from)
     ∙ ap (λ v. heard_before l s.at ++ map (told g.from) v) (sym d.to_words)
 
-joins_told : (a : ℕ) (ws : List ℕ) → map joins (map (told a) ws) ≡ map (λ w. (a, to_episode w)) ws
-joins_told a [] = refl
-joins_told a (w ∷ ws) = ap (λ r. (a, to_episode w) ∷ r) (joins_told a ws)
-
+-- so it is with those of them that count by their own pause
 pub links_group : (s : Groups) (g : Group) (t : Groups) → Given s g t
-    → links_before s.log.words.now t.at ≡ links_before s.log.words.now s.at ++ map (λ w. (g.from, to_episode w)) g.to_words.now
+    → short_before s.log.words.now t.at
+    ≡ short_before s.log.words.now s.at ++ map joins (short_of (content_of s.log.words.now).version (map (told g.from) g.to_words.now))
 links_group s g t d =
-    let l = s.log.words.now in
-    ap (map joins) (heard_group s g t d) ∙ map-append joins (heard_before l s.at) (map (told g.from) g.to_words.now)
-    ∙ ap (λ h. links_before l s.at ++ h) (joins_told g.from g.to_words.now)
+    let v = (content_of s.log.words.now).version in
+    ap (λ (hs : List Heard). map joins (short_of v hs)) (heard_group s g t d)
+    ∙ short_more v (heard_before s.log.words.now s.at) (map (told g.from) g.to_words.now)
 
 -- the episodes of a group are those of the log
 module _ (s : Groups) (g : Group) (t : Groups) (d : Given s g t) where

@@ -25,10 +25,10 @@ use native.Mathlib.Decide.{ℕ_discrete}
 use native.Mathlib.Omega.{arith}
 use Rattle.order.proofs.Lists.{filter_sound, filter_complete}
 use Rattle.paths.specs.Graph.{Link, SameLinks}
-use Rattle.logs.specs.Content.{Heard, Content, joins, graph, HeardOf, LeastPause, SameContent, pauses_of, least, least_pause}
+use Rattle.logs.specs.Content.{Heard, Content, joins, heard_graph, HeardOf, LeastPause, SameContent, pauses_of, least, least_pause}
 
 -- a link that was heard is its three figures
-same_heard : (h : Heard) (a b p : ℕ) → a ≡ h.from → b ≡ h.to → p ≡ h.pause → record { from = a; to = b; pause = p } ≡ h
+pub same_heard : (h : Heard) (a b p : ℕ) → a ≡ h.from → b ≡ h.to → p ≡ h.pause → record { from = a; to = b; pause = p } ≡ h
 same_heard h a b p e f g = rw (e, f, g)
 
 module _ (a b : ℕ) where
@@ -113,8 +113,8 @@ least_pause_lem c a b (p, m) =
     some [] i = absurd (not-nil i)
     some (q ∷ ps) i = least_mem q ps
 
--- a link of the graph was heard with some pause
-pub link_heard : (c : Content) (a b : ℕ) → Link (graph c) a b ↔ ((p : ℕ) × HeardOf c a b p)
+-- a link that was heard, was so with some pause
+pub link_heard : (c : Content) (a b : ℕ) → Link (heard_graph c) a b ↔ ((p : ℕ) × HeardOf c a b p)
 link_heard c a b = (
   λ m.
       let (h, i, e) = Memᴰ.of_map joins c.heard m in
@@ -124,45 +124,46 @@ link_heard c a b = (
   λ (p, m). Memᴰ.map joins m,
 )
 
--- contents that agree have the same links, and the same least pause of each
+-- in contents that agree the same links were heard, with the same least pause of each
 module _ {c d : Content} where
-  pub same_links : SameContent c d → SameLinks (graph c) (graph d)
-  same_links s =
+  pub same_heards : SameContent c d → SameLinks (heard_graph c) (heard_graph d)
+  same_heards s =
       record {
         episodes = s.episodes;
         links = λ a b. Iff.trans (link_heard c a b) (Iff.trans (s.links a b) (Iff.symm (link_heard d a b)));
       }
 
-  pub same_least : SameContent c d → (a b : ℕ) → Link (graph c) a b → least_pause c a b ≡ least_pause d a b
+  pub same_least : SameContent c d → (a b : ℕ) → Link (heard_graph c) a b → least_pause c a b ≡ least_pause d a b
   same_least s a b k =
       let there = least_pause_lem c a b ((link_heard c a b).0 k) in
       least_unique ((s.pauses a b _).0 there) (least_pause_lem d a b (least_pause c a b, ((s.pauses a b _).0 there).heard))
 
--- and the other way round: contents with the same links and the same least pauses agree
-module _ {c d : Content} (s : SameLinks (graph c) (graph d)) where
-  same_heards : (a b : ℕ) → ((p : ℕ) × HeardOf c a b p) ↔ ((p : ℕ) × HeardOf d a b p)
-  same_heards a b = Iff.trans (Iff.symm (link_heard c a b)) (Iff.trans (s.links a b) (link_heard d a b))
+-- and the other way round: contents with the same version, the same links and the same least pauses agree
+module _ {c d : Content} (versions : c.version ≡ d.version) (s : SameLinks (heard_graph c) (heard_graph d)) where
+  heard_both : (a b : ℕ) → ((p : ℕ) × HeardOf c a b p) ↔ ((p : ℕ) × HeardOf d a b p)
+  heard_both a b = Iff.trans (Iff.symm (link_heard c a b)) (Iff.trans (s.links a b) (link_heard d a b))
 
-  module _ (equal : (a b : ℕ) → Link (graph c) a b → least_pause c a b ≡ least_pause d a b) where
+  module _ (equal : (a b : ℕ) → Link (heard_graph c) a b → least_pause c a b ≡ least_pause d a b) where
     pauses_equal : (a b p : ℕ) → LeastPause c a b p ↔ LeastPause d a b p
     pauses_equal a b p = (
       λ r.
           let one : (q : ℕ) × HeardOf c a b q = (p, r.heard) in
           let same = least_unique r (least_pause_lem c a b one) ∙ equal a b ((link_heard c a b).1 one) in
-          subst (LeastPause d a b) (sym same) (least_pause_lem d a b ((same_heards a b).0 one)),
+          subst (LeastPause d a b) (sym same) (least_pause_lem d a b ((heard_both a b).0 one)),
       λ r.
           let one : (q : ℕ) × HeardOf d a b q = (p, r.heard) in
-          let back = (same_heards a b).1 one in
+          let back = (heard_both a b).1 one in
           let same = least_unique r (least_pause_lem d a b one) ∙ sym (equal a b ((link_heard c a b).1 back)) in
           subst (LeastPause c a b) (sym same) (least_pause_lem c a b back),
     )
 
     pub content_same : SameContent c d
-    content_same = record { episodes = s.episodes; links = same_heards; pauses = pauses_equal }
+    content_same = record { versions = versions; episodes = s.episodes; links = heard_both; pauses = pauses_equal }
 
 pub content_sym : {c d : Content} → SameContent c d → SameContent d c
 content_sym s =
     record {
+      versions = sym s.versions;
       episodes = sym s.episodes;
       links = λ a b. Iff.symm (s.links a b);
       pauses = λ a b p. Iff.symm (s.pauses a b p);
@@ -171,6 +172,7 @@ content_sym s =
 pub content_trans : {c d e : Content} → SameContent c d → SameContent d e → SameContent c e
 content_trans s t =
     record {
+      versions = s.versions ∙ t.versions;
       episodes = s.episodes ∙ t.episodes;
       links = λ a b. Iff.trans (s.links a b) (t.links a b);
       pauses = λ a b p. Iff.trans (s.pauses a b p) (t.pauses a b p);

@@ -1,4 +1,4 @@
--- A log passes questions 1 to 10 exactly when it is well formed.
+-- A log passes questions 1 to 10 and 18 exactly when it is well formed.
 use mathlib.Core.Path.{◌≡◌, refl, ◌∙◌, sym, ap}
 use mathlib.Core.Logic.{◌⊎◌, inl, inr, ⊎_elim}
 use mathlib.Core.Bool.{false, true≢false}
@@ -10,10 +10,10 @@ use native.Mathlib.Nat.{suc-add}
 use lib.ListN.{length, get_or, drop}
 use borrow.Author.Tests.{le-leb}
 use Rattle.paths.specs.Graph.{EndsBelow}
-use Rattle.logs.specs.Words.{kind, number}
-use Rattle.logs.specs.Content.{joins}
+use Rattle.logs.specs.Words.{kind, number, head_episodes, head_version}
+use Rattle.logs.specs.Content.{joins, heard_graph}
 use Rattle.logs.specs.Answer.{given}
-use Rattle.logs.specs.Log.{figure, head_word, onwards, questions, heard_from, graph_of, PassedLog, PassesWith}
+use Rattle.logs.specs.Log.{figure, head_word, onwards, questions, heard_from, content_of, PassedLog, PassesWith}
 use Rattle.logs.specs.declared.Ceilings.{Ceilings}
 use Rattle.logs.proofs.Words.{figure_from, figure_to}
 use Rattle.logs.proofs.Asked.{behind, to_there, there_to, head_passed}
@@ -24,7 +24,8 @@ use Rattle.logs.proofs.Rest.{both_given, last_behind, Grouped, RestFormed, rest_
 pub record WellFormed (m : Ceilings) (l : List ℕ) (n t : ℕ) : Type 0 where
   pub long : 2 ≤ length l
   pub head_kind : kind (get_or l 0 0) ≡ 1
-  pub head_number : number (get_or l 0 0) ≡ n
+  pub known_version : head_version (get_or l 0 0) ≤ 1
+  pub episodes : head_episodes (get_or l 0 0) ≡ n
   pub few_episodes : n ≤ m.episodes
   pub between : (p : ℕ) → 0 < p → p + 1 < length l → (kind (get_or l p 0) ≡ 2) ⊎ (kind (get_or l p 0) ≡ 3)
   pub below : (p : ℕ) → 0 < p → p + 1 < length l → figure (get_or l p 0) < n
@@ -38,7 +39,8 @@ pub record WellFormed (m : Ceilings) (l : List ℕ) (n t : ℕ) : Type 0 where
 -- the same, of the head `h` and of the words behind it
 record Parts (m : Ceilings) (h : ℕ) (s : List ℕ) (n t : ℕ) : Type 0 where
   head_kind : kind h ≡ 1
-  head_number : number h ≡ n
+  known_version : head_version h ≤ 1
+  episodes : head_episodes h ≡ n
   few_episodes : n ≤ m.episodes
   words : RestFormed n s false 0 t
   few_words : t ≤ m.words
@@ -47,13 +49,14 @@ module _ (m : Ceilings) (h w : ℕ) (rest : List ℕ) (n t : ℕ) where
   parts : questions m (h ∷ w ∷ rest) ≡ given (n, t) → Parts m h (w ∷ rest) n t
   unfolding questions
   parts e =
-      let both = both_given (head_word m h) (onwards m (number h) 1 w rest false 0) (n, t) e in
+      let both = both_given (head_word m h) (onwards m (head_episodes h) 1 w rest false 0) (n, t) e in
       let head = head_passed m h both.0.0 both.0.1 in
-      let formed = rest_formed m (number h) 1 w rest false 0 n t both.1 (omega arith) in
+      let formed = rest_formed m (head_episodes h) 1 w rest false 0 n t both.1 (omega arith) in
       record {
         head_kind = head.0;
-        head_number = sym formed.0;
-        few_episodes = rw formed.0 head.1;
+        known_version = head.1;
+        episodes = sym formed.0;
+        few_episodes = rw formed.0 head.2;
         words = rw formed.0 formed.1;
         few_words = formed.2;
       }
@@ -61,14 +64,16 @@ module _ (m : Ceilings) (h w : ℕ) (rest : List ℕ) (n t : ℕ) where
   parts_pass : Parts m h (w ∷ rest) n t → questions m (h ∷ w ∷ rest) ≡ given (n, t)
   unfolding questions
   parts_pass r =
-      rw (r.head_kind, r.head_number, le-leb n m.episodes r.few_episodes) (rest_passes m n 1 w rest false 0 t r.words r.few_words)
+      rw (r.head_kind, le-leb (head_version h) 1 r.known_version, r.episodes, le-leb n m.episodes r.few_episodes)
+      (rest_passes m n 1 w rest false 0 t r.words r.few_words)
 
   well_formed_parts : Parts m h (w ∷ rest) n t → WellFormed m (h ∷ w ∷ rest) n t
   well_formed_parts r =
       record {
         long = omega arith;
         head_kind = r.head_kind;
-        head_number = r.head_number;
+        known_version = r.known_version;
+        episodes = r.episodes;
         few_episodes = r.few_episodes;
         between = between;
         below = below;
@@ -103,7 +108,8 @@ module _ (m : Ceilings) (h w : ℕ) (rest : List ℕ) (n t : ℕ) where
   parts_well_formed f =
       record {
         head_kind = f.head_kind;
-        head_number = f.head_number;
+        known_version = f.known_version;
+        episodes = f.episodes;
         few_episodes = f.few_episodes;
         words =
             record {
@@ -140,13 +146,13 @@ well_formed_passes m [] n t f = let none : 2 ≤ 0 = f.long in absurd (omega ari
 well_formed_passes m (h ∷ []) n t f = let none : 2 ≤ 1 = f.long in absurd (omega arith)
 well_formed_passes m (h ∷ w ∷ rest) n t f = parts_pass m h w rest n t (parts_well_formed m h w rest n t f)
 
-pub links_below : (m : Ceilings) (l : List ℕ) (n t : ℕ) → questions m l ≡ given (n, t) → EndsBelow (graph_of l)
+pub heard_below : (m : Ceilings) (l : List ℕ) (n t : ℕ) → questions m l ≡ given (n, t) → EndsBelow (heard_graph (content_of l))
 unfolding questions
-links_below m [] n t e = let none : ◌≡◌ {A = ℕ} 0 1 = cc in absurd (omega arith)
-links_below m (h ∷ []) n t e = let none : ◌≡◌ {A = ℕ} 0 1 = cc in absurd (omega arith)
-links_below m (h ∷ w ∷ rest) n t e =
+heard_below m [] n t e = let none : ◌≡◌ {A = ℕ} 0 1 = cc in absurd (omega arith)
+heard_below m (h ∷ []) n t e = let none : ◌≡◌ {A = ℕ} 0 1 = cc in absurd (omega arith)
+heard_below m (h ∷ w ∷ rest) n t e =
     let r = parts m h w rest n t e in
-    rw r.head_number
+    rw r.episodes
     (λ a b i.
     let (h, j, same) = Memᴰ.of_map joins (heard_from 0 (w ∷ rest)) i in
     let (from, to) = ends_below n (w ∷ rest) false 0 t 0 r.words (λ f. absurd (true≢false (sym f))) h j in
@@ -160,7 +166,8 @@ passes_own m l n t e =
     (record {
       long = f.long;
       head_kind = f.head_kind;
-      head_number = f.head_number;
+      known_version = f.known_version;
+      episodes = f.episodes;
       few_episodes = omega arith;
       between = f.between;
       below = f.below;

@@ -1,11 +1,11 @@
--- A word is its kind and its number, and a to word its episode and its pause.
+-- A word is its kind and its number, a head its version and its episodes, and a to word its episode and its pause.
 use mathlib.Core.Path.{◌≡◌}
 use mathlib.Core.Bool.{true, false}
 use Prim.Native.Nat.{ℕ, ◌+◌, ◌*◌, ◌<◌, ◌^◌}
 use native.Mathlib.Omega.{arith}
 use lib.Dec.{eqb}
 use borrow.Author.Tests.{eqb-true, eqb-false, eq-eqb}
-use Rattle.logs.specs.Words.{kind, number, word, Small, to_episode, to_pause, to_word, kind_code}
+use Rattle.logs.specs.Words.{kind, number, word, Small, head_episodes, head_version, head_of, to_episode, to_pause, to_word, kind_code}
 use Rattle.logs.specs.declared.Kind.{Kind}
 use Rattle.logs.specs.Log.{figure, minutes}
 
@@ -39,6 +39,20 @@ module _ (k : Kind) (x : ℕ) (small : Small x) where
 
   pub word_number : number (word (kind_code k) x) ≡ x
   word_number = number_word (kind_code k) x small
+
+-- a head is made of its two figures, which must fit
+module _ (v n : ℕ) (high : v < 2 ^ 4) (low : n < 2 ^ 24) where
+  pub head_kind : kind (head_of v n) ≡ 1
+  head_kind = omega arith
+
+  pub head_version_lem : head_version (head_of v n) ≡ v
+  head_version_lem = omega arith
+
+  pub head_episodes_lem : head_episodes (head_of v n) ≡ n
+  head_episodes_lem = omega arith
+
+pub head_unversioned : (n : ℕ) → head_of 0 n ≡ word 1 n
+head_unversioned n = omega arith
 
 -- a to word is made of its two figures, which must fit
 module _ (b p : ℕ) (fits : b < 2 ^ 16) (short : p < 2 ^ 12) where

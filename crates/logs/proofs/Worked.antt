@@ -5,7 +5,7 @@ use mathlib.Core.List.{List, [], ◌∷◌}
 use Prim.Native.Nat.{ℕ}
 use native.Mathlib.Decide.{ℕ_discrete}
 use Rattle.logs.specs.Answer.{given, refused}
-use Rattle.logs.specs.Content.{pauses_of, least, least_pause}
+use Rattle.logs.specs.Content.{pauses_of, least, least_pause, counting}
 use Rattle.logs.specs.Log.{service, onwards, group_word, end_word, questions, heard_from, content_of, graph_of}
 
 whole : List ℕ
@@ -16,7 +16,7 @@ unfolding whole questions onwards group_word end_word
 whole_read = refl
 
 whole_links : (graph_of whole).links ≡ (0, 1) ∷ (2, 3) ∷ []
-unfolding whole heard_from
+unfolding whole heard_from counting
 whole_links = refl
 
 -- 0-1 after 45 minutes, 0-2 after 4,095, and 0-1 again, after 10

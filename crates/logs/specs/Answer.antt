@@ -1,8 +1,9 @@
 -- What a call answers, and the answer of each result: the scope's number of its refusal, and the values of what it gives.
 use Rattle.std.specs.Prelude.{ℕ, Bool, true, false, Result, Ok, Err}
 use Rattle.logs.specs.declared.Reason.{Reason}
-use Rattle.logs.specs.declared.Reason.TheVariants.{TooShort, NoHead, TooManyEpisodes, UnknownKind, ToBeforeFrom, FromWithoutTo, NoSuchEpisode, TooManyToWords, NoEnd, WrongCount, OutputTooShort, WorkTooShort, Loop, TooManyBytes, PartOfAWord, NotAReport, NoSuchThread}
+use Rattle.logs.specs.declared.Reason.TheVariants.{TooShort, NoHead, TooManyEpisodes, UnknownKind, ToBeforeFrom, FromWithoutTo, NoSuchEpisode, TooManyToWords, NoEnd, WrongCount, OutputTooShort, WorkTooShort, Loop, TooManyBytes, PartOfAWord, NotAReport, NoSuchThread, UnknownVersion}
 use Rattle.logs.specs.declared.Refusal.{Refusal}
+use Rattle.logs.specs.declared.Head.{Head}
 use Rattle.logs.specs.declared.ToWord.{ToWord}
 use Rattle.logs.specs.declared.LogWord.{LogWord}
 use Rattle.logs.specs.declared.LogWord.TheVariants.{From, To, End}
@@ -42,13 +43,18 @@ reason_number TooManyBytes = 14
 reason_number PartOfAWord = 15
 reason_number NotAReport = 16
 reason_number NoSuchThread = 17
+reason_number UnknownVersion = 18
 
 -- what a result answers, where `f` tells the values of what it gives
 abbrev pub result_answer : {T A : Type 0} → (T → A) → Result T Refusal → Answer A
 result_answer f (Ok x) = given (f x)
 result_answer f (Err r) = refused (reason_number r.reason) r.place
 
--- the figures of a word of kind `k` that is no to word: its kind, its number, and no pause
+-- a head's kind, its count of episodes and its version
+abbrev pub head_figures : Head → ℕ × ℕ × ℕ
+head_figures h = (1, h.episodes, h.version)
+
+-- the figures of a from word or an end of kind `k`: its kind, its number, and no pause
 abbrev pub numbered : ℕ → ℕ → ℕ × ℕ × ℕ
 numbered k x = (k, x, 0)
 

@@ -1,6 +1,8 @@
--- What a log tells, apart from its words: the episodes, and the links that were heard, each with a pause. The graph follows from it.
-use Rattle.std.specs.Prelude.{◌≡◌, ◌↔◌, ℕ, ◌≤◌, min}
+-- What a log tells, apart from its words: its version, the episodes, and the links that were heard, each with a pause. Which links count, and
+-- the graph of these, follow from it.
+use Rattle.std.specs.Prelude.{◌≡◌, ◌↔◌, Bool, true, ◌||◌, ℕ, ◌≤◌, min, leb, eqb}
 use Rattle.std.proofs.Math.Logic.Dec
+use Rattle.std.proofs.Math.Bool.{Bool-discrete}
 use mathlib.Core.List.{List, [], ◌∷◌, map, filter, Memᴰ as Mem}
 use Rattle.std.proofs.Math.Decide.{ℕ_discrete}
 use Rattle.paths.specs.Graph.{Graph}
@@ -11,8 +13,9 @@ pub record Heard : Type 0 where
   pub to : ℕ
   pub pause : ℕ
 
--- the episodes 0 to n - 1, and the links that were heard, in the order read
+-- the version, the episodes 0 to n - 1, and the links that were heard, in the order read
 pub record Content : Type 0 where
+  pub version : ℕ
   pub n : ℕ
   pub heard : List Heard
 
@@ -20,13 +23,9 @@ pub record Content : Type 0 where
 abbrev pub joins : Heard → ℕ × ℕ
 joins h = (h.from, h.to)
 
--- the links that count: all that were heard
-abbrev pub counting : Content → List Heard
-counting c = c.heard
-
--- the graph: the episodes and the links that count, pauses left out
-abbrev pub graph : Content → Graph
-graph c = record { n = c.n; links = map joins (counting c) }
+-- the episodes and all links that were heard, pauses left out
+abbrev pub heard_graph : Content → Graph
+heard_graph c = record { n = c.n; links = map joins c.heard }
 
 -- the link from `a` to `b` was heard with the pause `p`
 abbrev pub HeardOf : Content → ℕ → ℕ → ℕ → Type 0
@@ -37,8 +36,9 @@ pub record LeastPause (c : Content) (a b p : ℕ) : Type 0 where
   pub heard : HeardOf c a b p
   pub least : (q : ℕ) → HeardOf c a b q → p ≤ q
 
--- the same episodes, the same set of links that were heard, and the same least pause of each
+-- the same version, the same episodes, the same set of links that were heard, and the same least pause of each
 pub record SameContent (c d : Content) : Type 0 where
+  pub versions : c.version ≡ d.version
   pub episodes : c.n ≡ d.n
   pub links : (a b : ℕ) → ((p : ℕ) × HeardOf c a b p) ↔ ((p : ℕ) × HeardOf d a b p)
   pub pauses : (a b p : ℕ) → LeastPause c a b p ↔ LeastPause d a b p
@@ -56,3 +56,23 @@ least (p ∷ q ∷ ps) = min p (least (q ∷ ps))
 -- the least pause of the link from `a` to `b`; 0 where it was not heard
 abbrev pub least_pause : Content → ℕ → ℕ → ℕ
 least_pause c a b = least (pauses_of a b c.heard)
+
+-- the longest pause with which a link of version 1 counts, in minutes
+abbrev pub longest_pause : ℕ
+longest_pause = 360
+
+-- whether a pause of `p` minutes lets a link count: in version 0 each does, in version 1 none that is longer than that; other versions do not pass
+abbrev pub short_enough : ℕ → ℕ → Bool
+short_enough v p = eqb v 0 || leb p longest_pause
+
+-- the links that count: those whose least pause lets them
+unfoldable pub counting : Content → List Heard
+counting c = filter (λ (h : Heard). Bool-discrete (short_enough c.version (least_pause c h.from h.to)) true) c.heard
+
+-- the graph: the episodes and the links that count, pauses left out
+abbrev pub graph : Content → Graph
+graph c = record { n = c.n; links = map joins (counting c) }
+
+-- the links among `hs` that count by their own pause, in version `v`
+unfoldable pub short_of : ℕ → List Heard → List Heard
+short_of v hs = filter (λ (h : Heard). Bool-discrete (short_enough v h.pause) true) hs

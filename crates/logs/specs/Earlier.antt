@@ -1,5 +1,5 @@
--- Older logs, in which no to word has a pause; and questions 1 to 10 and the graph as they were defined before there were pauses, word for
--- word: what older logs are held to.
+-- Older logs, in which no to word has a pause and the head has no version; and questions 1 to 10 and the graph as they were defined before
+-- there were pauses, word for word: what older logs are held to.
 use Rattle.std.specs.Prelude.{◌≡◌, Bool, true, false, not, ◌||◌, List, [], ◌∷◌, ℕ, ◌+◌, ◌<◌, ◌^◌, leb, ltb, eqb, get_or, drop}
 use Rattle.order.specs.Order.{All}
 use Rattle.paths.specs.Graph.{Graph}
@@ -8,9 +8,13 @@ use Rattle.logs.specs.Answer.{Answer, given, refused, question, and_then}
 use Rattle.logs.specs.Log.{is_from, is_to, to_before_last, counted}
 use Rattle.logs.specs.declared.Ceilings.{Ceilings}
 
--- an older log: the number of every to word is below 65,536
+-- the number of every to word is below 65,536
+abbrev pub Unpaused : List ℕ → Type 0
+Unpaused l = All (λ w. kind w ≡ 3 → number w < 2 ^ 16) l
+
+-- an older log: that, and the number of its head is below 16,777,216
 abbrev pub Older : List ℕ → Type 0
-Older l = All (λ w. kind w ≡ 3 → number w < 2 ^ 16) l
+Older l = Unpaused l × (number (get_or l 0 0) < 2 ^ 24)
 
 -- ---- as it was
 

@@ -1,8 +1,8 @@
 -- The groups of a log: what the words before a place give, and the to words of a group.
 use Rattle.std.specs.Prelude.{◌≡◌, true, false, List, [], ◌∷◌, map, ℕ, ◌+◌, ◌≤◌, ◌<◌, length, get_or, take, drop}
 use Rattle.logs.specs.Words.{kind, number, to_episode, to_pause}
-use Rattle.logs.specs.Content.{Heard, joins}
-use Rattle.logs.specs.Log.{is_from, to_before_last, heard_from}
+use Rattle.logs.specs.Content.{Heard, joins, short_of}
+use Rattle.logs.specs.Log.{is_from, to_before_last, heard_from, content_of}
 
 -- the episode of the last from word among the words, or `a` if there is none
 unfoldable pub last_from : ℕ → List ℕ → ℕ
@@ -13,13 +13,19 @@ last_from a (w ∷ rest) = elim (is_from w) [ true ↦ last_from (number w) rest
 abbrev pub before : List ℕ → ℕ → List ℕ
 before l p = drop 1 (take p l)
 
--- the links of the words before place `p`, with and without their pauses, and the episode of the nearest from word before it
+-- the links of the words before place `p`
 unfoldable pub heard_before : List ℕ → ℕ → List Heard
 heard_before l p = heard_from 0 (before l p)
 
-abbrev pub links_before : List ℕ → ℕ → List (ℕ × ℕ)
-links_before l p = map joins (heard_before l p)
+-- of these, without their pauses, the links that count by their own pause
+abbrev pub short_before : List ℕ → ℕ → List (ℕ × ℕ)
+short_before l p = map joins (short_of (content_of l).version (heard_before l p))
 
+-- such links of the whole log
+abbrev pub short_links : List ℕ → List (ℕ × ℕ)
+short_links l = map joins (short_of (content_of l).version (content_of l).heard)
+
+-- the episode of the nearest from word before place `p`
 unfoldable pub nearest_from : List ℕ → ℕ → ℕ
 nearest_from l p = last_from 0 (before l p)
 

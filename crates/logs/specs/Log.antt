@@ -1,7 +1,7 @@
--- A log: questions 1 to 10, and what its words tell.
-use Rattle.std.specs.Prelude.{◌≡◌, Bool, true, false, not, ◌&&◌, ◌||◌, List, [], ◌∷◌, ℕ, ◌+◌, ◌≤◌, leb, ltb, eqb, length, get_or, drop}
+-- A log: questions 1 to 10 and 18, and what its words tell.
+use Rattle.std.specs.Prelude.{◌≡◌, Bool, true, false, not, ◌&&◌, ◌||◌, List, [], ◌∷◌, map, ℕ, ◌+◌, ◌≤◌, leb, ltb, eqb, length, get_or, drop}
 use Rattle.paths.specs.Graph.{Graph}
-use Rattle.logs.specs.Words.{kind, number, to_episode, to_pause}
+use Rattle.logs.specs.Words.{kind, number, head_episodes, head_version, to_episode, to_pause, to_word}
 use Rattle.logs.specs.Content.{Heard, Content, graph}
 use Rattle.logs.specs.Answer.{Answer, given, refused, question, and_then}
 use Rattle.logs.specs.declared.Ceilings.{Ceilings}
@@ -28,12 +28,13 @@ figure w = elim (is_to w) [ true ↦ to_episode w | false ↦ number w ]
 abbrev pub minutes : ℕ → ℕ
 minutes w = elim (is_to w) [ true ↦ to_pause w | false ↦ 0 ]
 
--- Questions 2 and 3, of the head `w`.
+-- Questions 2, 18 and 3, of the head `w`: there are the versions 0 and 1.
 abbrev pub head_word : Ceilings → ℕ → Answer (ℕ × ℕ × ℕ)
 head_word m w =
     question 2 0 (eqb (kind w) 1)
-    (question 3 0 (leb (number w) m.episodes)
-    (given (kind w, number w, 0)))
+    (question 18 0 (leb (head_version w) 1)
+    (question 3 0 (leb (head_episodes w) m.episodes)
+    (given (kind w, head_episodes w, head_version w))))
 
 -- Questions 4 to 8, of the word `w` at place `p` between head and end. The words behind it are `rest`; `from` says whether a from
 -- word has come before it, `t` how many to words have.
@@ -69,11 +70,11 @@ onwards m n p w [] from t = and_then (log_word m n p w [] from t) (given (n, t))
 onwards m n p w (x ∷ rest) from t =
     and_then (log_word m n p w (x ∷ rest) from t) (onwards m n (p + 1) x rest (from || is_from w) (counted (is_to w) t))
 
--- Questions 1 to 10: n and the count of to words, or the refusal.
+-- Questions 1 to 10, and 18: n and the count of to words, or the refusal.
 unfoldable pub questions : Ceilings → List ℕ → Answer (ℕ × ℕ)
 questions m [] = refused 1 0
 questions m (w ∷ []) = refused 1 0
-questions m (w ∷ x ∷ rest) = and_then (head_word m w) (onwards m (number w) 1 x rest false 0)
+questions m (w ∷ x ∷ rest) = and_then (head_word m w) (onwards m (head_episodes w) 1 x rest false 0)
 
 -- The links that the words behind the head give, in order: each to word gives one, from the nearest from word before it; `a` is that of
 -- the words before.
@@ -90,16 +91,29 @@ heard_from a (w ∷ rest) =
 
 -- what a log tells
 abbrev pub content_of : List ℕ → Content
-content_of l = record { n = number (get_or l 0 0); heard = heard_from 0 (drop 1 l) }
+content_of l = record { version = head_version (get_or l 0 0); n = head_episodes (get_or l 0 0); heard = heard_from 0 (drop 1 l) }
 
 -- the graph of a log
 abbrev pub graph_of : List ℕ → Graph
 graph_of l = graph (content_of l)
 
--- the log passes questions 1 to 10, at some ceilings, with at most 256 episodes
+-- how many links were heard: one for each to word
+abbrev pub heard_count : List ℕ → ℕ
+heard_count l = length (content_of l).heard
+
+-- the log passes questions 1 to 10 and 18, at some ceilings, with at most 256 episodes
 abbrev pub PassedLog : List ℕ → Type 0
 PassedLog l = (m : Ceilings) × (n : ℕ) × (t : ℕ) × (questions m l ≡ given (n, t)) × (n ≤ 256)
 
--- the log passes questions 1 to 10 with `n` episodes and `t` to words, at these as ceilings
+-- the log passes questions 1 to 10 and 18 with `n` episodes and `t` to words, at these as ceilings
 abbrev pub PassesWith : List ℕ → ℕ → ℕ → Type 0
 PassesWith l n t = questions (record { episodes = n; words = t }) l ≡ given (n, t)
+
+-- a to word with pause 0, another word as it is
+abbrev pub without_pause : ℕ → ℕ
+without_pause w = elim (is_to w) [ true ↦ to_word (to_episode w) 0 | false ↦ w ]
+
+-- a log with pause 0 in every to word
+unfoldable pub without_pauses : List ℕ → List ℕ
+without_pauses [] = []
+without_pauses (w ∷ rest) = w ∷ map without_pause rest

@@ -1,4 +1,4 @@
--- A word of 32 bits: its top 4 bits are its kind, its low 28 bits its number. A to word's number is two figures.
+-- A word of 32 bits: its top 4 bits are its kind, its low 28 bits its number. The number of a head and that of a to word are two figures.
 use Rattle.std.specs.Prelude.{ℕ, ◌+◌, ◌*◌, ◌/◌, ◌%◌, ◌^◌, ◌<◌}
 use Rattle.logs.specs.declared.Kind.{Kind}
 use Rattle.logs.specs.declared.Kind.TheVariants.{Head, From, To, Width, Apart, Thread, Step, Loop, End}
@@ -16,6 +16,18 @@ word k x = k * 2 ^ 28 + x
 -- a number that a word can hold
 abbrev pub Small : ℕ → Type 0
 Small x = x < 2 ^ 28
+
+-- how many episodes a head gives: bits 0 to 23
+abbrev pub head_episodes : ℕ → ℕ
+head_episodes w = number w % 2 ^ 24
+
+-- its version: bits 24 to 27
+abbrev pub head_version : ℕ → ℕ
+head_version w = number w / 2 ^ 24
+
+-- the head of version `v` with `n` episodes
+abbrev pub head_of : ℕ → ℕ → ℕ
+head_of v n = word 1 (v * 2 ^ 24 + n)
 
 -- the later episode of a to word: bits 0 to 15
 abbrev pub to_episode : ℕ → ℕ

@@ -1,14 +1,16 @@
-// The reading of a log: questions 1 to 10. `as` stands between u32 and usize, since neither has a `From` for the other, and for an enum's number.
+// The reading of a log: questions 1 to 10, and 18. `as` stands between u32 and usize, since neither has a `From` for the other, and for an enum's
+// number.
 #![tactic(auto)]
 
-ghost use Rattle.std.specs.Prelude.{◌≡◌, false, ℕ, ◌+◌, ◌^◌, ◌<◌, ◌≤◌, ltb, eqb, List, [], ◌∷◌, ◌++◌, length, get_or, drop, OnOk};
-ghost use Rattle.logs.specs.Words.{kind, number, word, Small, to_episode, to_pause, to_word, kind_code};
+ghost use Rattle.std.specs.Prelude.{◌≡◌, false, ℕ, ◌+◌, ◌^◌, ◌<◌, ◌≤◌, ltb, eqb, List, [], ◌++◌, length, get_or, drop, OnOk};
+ghost use Rattle.logs.specs.Words.{kind, number, word, Small, head_episodes, head_version, head_of, to_episode, to_pause, to_word, kind_code};
+ghost use Rattle.logs.specs.Content.{short_enough};
 ghost use Rattle.logs.specs.Kinds.{KindOf};
-ghost use Rattle.logs.specs.Answer.{given, question, reason_number, result_answer, numbered, to_figures, word_answer, read_answer};
-ghost use Rattle.logs.specs.Log.{service, to_before_last, head_word, group_word, end_word, questions, graph_of};
+ghost use Rattle.logs.specs.Answer.{given, question, reason_number, result_answer, numbered, head_figures, to_figures, word_answer, read_answer};
+ghost use Rattle.logs.specs.Log.{service, to_before_last, head_word, group_word, end_word, questions, content_of};
 ghost use Rattle.logs.specs.Places.{log_word_at, Stopped};
-ghost use Rattle.logs.specs.Groups.{ToWords, links_before};
-ghost use Rattle.logs.specs.Hear.{Next};
+ghost use Rattle.logs.specs.Groups.{ToWords, short_links, short_before};
+ghost use Rattle.logs.specs.Hear.{Next, where_short};
 
 pub mod numbers;
 pub mod passed;
@@ -126,6 +128,42 @@ impl ToWord {
     }
 }
 
+// A head: its version and its count of episodes.
+#[derive(Clone, Copy, Debug, PartialEq, Eq)]
+pub struct Head {
+    pub version: u32,
+    pub episodes: usize,
+}
+
+impl From<u32> for Head {
+    ghost from_gives = { λ w h. (h.version ≡ head_version w) × (h.episodes ≡ head_episodes w) };
+
+    fn from(w: u32) -> Head {
+        let number = w % 0x1000_0000;
+        Head {
+            version: number / 0x100_0000,
+            episodes: (number % 0x100_0000) as usize,
+        }
+    }
+}
+
+impl Head {
+    // The head with these figures.
+    pub fn word(self) -> u32
+        requires { (self.version < 2 ^ 4) × (self.episodes < 2 ^ 24) }
+        ensures { result ≡ head_of self.version self.episodes }
+    {
+        Kind::Head.code() * 0x1000_0000 + (self.version * 0x100_0000 + self.episodes as u32)
+    }
+}
+
+// Whether a pause lets a link count: in version 0 each does.
+pub fn short_enough(version: u32, pause: u32) -> bool
+    ensures { result ≡ short_enough version pause }
+{
+    version == 0 || pause <= 360
+}
+
 // Why a call is refused: the questions that are answered no, by their numbers.
 #[derive(Clone, Copy, Debug, PartialEq, Eq)]
 pub enum Reason {
@@ -146,6 +184,7 @@ pub enum Reason {
     PartOfAWord = 15,
     NotAReport = 16,
     NoSuchThread = 17,
+    UnknownVersion = 18,
 }
 
 impl Reason {
@@ -198,19 +237,22 @@ pub struct Reading {
     pub to_words: usize,
 }
 
-// Questions 2 and 3, of the head: its number.
-pub fn head_word(most: Ceilings, w: u32) -> Result<usize, Refusal>
-    ensures { result_answer (numbered 1) result ≡ head_word most w }
+// Questions 2, 18 and 3, of the head: its version and its count of episodes.
+pub fn head_word(most: Ceilings, w: u32) -> Result<Head, Refusal>
+    ensures { result_answer head_figures result ≡ head_word most w }
 {
-    let number = number_of(w);
+    let head = Head::from(w);
     let ceiling = most.episodes;
     if !Kind::Head.is_of(w) {
         return Err(Reason::NoHead.at(0));
     }
-    if ceiling < number {
+    if 1 < head.version {
+        return Err(Reason::UnknownVersion.at(0));
+    }
+    if ceiling < head.episodes {
         return Err(Reason::TooManyEpisodes.at(0));
     }
-    Ok(number)
+    Ok(head)
 }
 
 // Whether the word at `at` is not the last, and is a to word.
@@ -253,7 +295,7 @@ fn end_word(w: u32, at: usize, count: usize) -> Result<usize, Refusal>
 
 // What hears the links of a log one by one, as the log is read.
 pub trait Hear {
-    // the links that it has heard
+    // the links that it has heard: those that a to word gives with a pause that lets them count
     ghost heard: { Self → List (ℕ × ℕ) → Type 0 };
 
     // of how many episodes it takes logs
@@ -266,10 +308,23 @@ pub trait Hear {
         requires { (n : ℕ) × takes n × (from < n) }
         ensures { result ≡ row_of from };
 
-    // Hears the link to episode `to` from the episode with that row.
-    fn hear(&mut self, row: usize, to: usize)
+    // Hears the link to episode `to` from the episode with that row where `short` says that its pause lets it count.
+    fn hear(&mut self, row: usize, to: usize, short: bool)
         requires { Next takes row_of (heard self.old) row to }
-        ensures { (next : Next takes row_of (heard self.old) row to) → heard self.new (next.links ++ (next.from, to) ∷ []) };
+        ensures { (next : Next takes row_of (heard self.old) row to) → heard self.new (next.links ++ where_short short (next.from, to)) };
+}
+
+// Tells a hearer of a to word in a log of this version, from the episode with that row. In version 0 its pause is not looked at.
+fn tell<H: Hear>(version: u32, hearer: &mut H, row: usize, to: ToWord)
+    requires { Next H.takes H.row_of (H.heard hearer.old) row to.episode }
+    ensures { (next : Next H.takes H.row_of (H.heard hearer.old) row to.episode)
+        → H.heard hearer.new (next.links ++ where_short (short_enough version to.pause) (next.from, to.episode)) }
+{
+    if version == 0 {
+        hearer.hear(row, to.episode, true);
+    } else {
+        hearer.hear(row, to.episode, short_enough(version, to.pause));
+    }
 }
 
 // A place of the log, and the count of to words before it.
@@ -279,7 +334,7 @@ struct Stop {
     count: usize,
 }
 
-// What questions 4 to 10 are asked of: a log, with the number of its head, at a caller's ceilings.
+// What questions 4 to 10 are asked of: a log, with the count of episodes of its head, at a caller's ceilings.
 #[derive(Clone, Copy)]
 pub struct Questions<'a> {
     pub most: Ceilings,
@@ -348,10 +403,12 @@ impl<'a> Questions<'a> {
         }
     }
 
-    // The place of the first word between head and end that earns a refusal, or else of the last word. The links before it are heard.
-    fn first_stop<H: Hear>(self, hearer: &mut H) -> Stop
-        requires { (2 ≤ length self.log.now) × (self.n ≤ self.most.episodes) × H.takes self.most.episodes × H.heard hearer.old [] }
-        ensures { Stopped self.entry.most self.entry.log.now self.entry.n result.place result.count × H.heard hearer.new (links_before self.entry.log.now result.place) }
+    // The place of the first word between head and end that earns a refusal, or else of the last word. The links before it that their pauses let count
+    // in this version, which is the log's, are heard.
+    fn first_stop<H: Hear>(self, version: u32, hearer: &mut H) -> Stop
+        requires { (2 ≤ length self.log.now) × (version ≡ (content_of self.log.now).version) × (self.n ≤ self.most.episodes) × H.takes self.most.episodes
+            × H.heard hearer.old [] }
+        ensures { Stopped self.entry.most self.entry.log.now self.entry.n result.place result.count × H.heard hearer.new (short_before self.entry.log.now result.place) }
     {
         let log = self.log;
         let last = log.len() - 1;
@@ -376,7 +433,7 @@ impl<'a> Questions<'a> {
                 let Ok(to) = self.to_word(at, log[at], at - others) else {
                     break 'log at;
                 };
-                hearer.hear(row, to.episode);
+                tell(version, hearer, row, to);
                 at += 1;
                 if !to_before_last(log, at) {
                     break;
@@ -388,8 +445,9 @@ impl<'a> Questions<'a> {
     }
 }
 
-// Questions 1 to 10, at a caller's ceilings, in one pass over the log. Where they are answered yes, its links have been heard in their order.
-#[tactic(auto, using(crate::proofs::Whole::too_short, crate::proofs::Whole::head_first, crate::proofs::Whole::word_stopped, crate::proofs::Hearing::all_links))]
+// Questions 1 to 10 and 18, at a caller's ceilings, in one pass over the log. Where they are answered yes, the links that their pauses let count have
+// been heard in their order.
+#[tactic(auto, using(crate::proofs::Whole::too_short, crate::proofs::Whole::head_first, crate::proofs::Whole::word_stopped, crate::proofs::Hearing::all_links, crate::proofs::Hearing::its_version))]
 pub fn read_hearing<H: Hear>(
     most: Ceilings,
     log: &[u32],
@@ -397,14 +455,15 @@ pub fn read_hearing<H: Hear>(
 ) -> Result<Reading, Refusal>
     requires { H.takes most.episodes × H.heard hearer.old [] }
     ensures answer { read_answer result ≡ questions most log.now }
-    ensures heard { OnOk result (H.heard hearer.new (graph_of log.now).links) }
+    ensures heard { OnOk result (H.heard hearer.new (short_links log.now)) }
 {
     if log.len() < 2 {
         return Err(Reason::TooShort.at(0));
     }
-    let n = head_word(most, log[0])?;
+    let head = head_word(most, log[0])?;
+    let n = head.episodes;
     let asked = Questions { most, log, n };
-    let stop = asked.first_stop(hearer);
+    let stop = asked.first_stop(head.version, hearer);
     asked.log_word(stop.place, 1 < stop.place, stop.count)?;
     Ok(Reading {
         episodes: n,
@@ -424,10 +483,10 @@ impl Hear for () {
         from
     }
 
-    fn hear(&mut self, _row: usize, _to: usize) {}
+    fn hear(&mut self, _row: usize, _to: usize, _short: bool) {}
 }
 
-// Questions 1 to 10, at a caller's ceilings.
+// Questions 1 to 10 and 18, at a caller's ceilings.
 pub fn read_within(most: Ceilings, log: &[u32]) -> Result<Reading, Refusal>
     ensures { read_answer result ≡ questions most log.now }
 {
@@ -444,7 +503,7 @@ pub fn service_ceilings() -> Ceilings
     }
 }
 
-// Questions 1 to 10, at the service's ceilings.
+// Questions 1 to 10 and 18, at the service's ceilings.
 pub fn read(log: &[u32]) -> Result<Reading, Refusal>
     ensures { read_answer result ≡ questions service log.now }
 {

@@ -1,13 +1,13 @@
-// A log that has passed questions 1 to 10, and its groups.
+// A log that has passed questions 1 to 10 and 18, and its groups.
 ghost use Rattle.std.specs.Prelude.{◌≡◌, ◌-◌, IfOk, length};
 ghost use Rattle.std.specs.Iterator.{at_most};
 ghost use Rattle.logs.specs.Answer.{result_answer};
-ghost use Rattle.logs.specs.Log.{questions, PassesWith};
+ghost use Rattle.logs.specs.Log.{questions, content_of, PassesWith};
 ghost use Rattle.logs.specs.Groups.{Starts};
 
-use crate::{Ceilings, Refusal, group_end, number_of, read_within};
+use crate::{Ceilings, Head, Refusal, group_end, number_of, read_within};
 
-// A log that passes questions 1 to 10: its words, and its counts of episodes and of to words.
+// A log that passes questions 1 to 10 and 18: its words, and its counts of episodes and of to words.
 #[derive(Clone, Copy)]
 pub struct Log<'a> {
     pub words: &'a [u32],
@@ -17,7 +17,7 @@ pub struct Log<'a> {
 }
 
 impl<'a> Log<'a> {
-    // Questions 1 to 10, at a caller's ceilings.
+    // Questions 1 to 10 and 18, at a caller's ceilings.
     pub fn read(most: Ceilings, words: &'a [u32]) -> Result<Log<'a>, Refusal>
         ensures answer { result_answer (λ l. (l.episodes, l.to_words)) result ≡ questions most words.now }
         ensures same { IfOk result (λ l. l.words.now ≡ words.now) }
@@ -47,6 +47,13 @@ pub struct Groups<'a> {
 }
 
 impl<'a> Log<'a> {
+    // Its version.
+    pub fn version(self) -> u32
+        ensures { result ≡ (content_of self.entry.words.now).version }
+    {
+        Head::from(self.words[0]).version
+    }
+
     // The groups, in order.
     pub fn groups(self) -> Groups<'a>
         ensures { (result.log ≡ self.entry) × (result.at ≡ 1) }

@@ -2,8 +2,8 @@
 -- what its contract says, `Left m l o w o' w' r`: `m` are the ceilings, any of them, the service's `service` included; `l` is the log, `o` and
 -- `w` are the output and the work buffer at entry, `o'` and `w'` at exit, and `r` is the outcome, of which `outcome_answer` gives the
 -- scope's numbers. The report's words are the first `c` of the output, `take c o'`, where `c` is the count that the outcome gives.
-use mathlib.Core.Path.{◌≡◌, sym, ap, subst, ◌∙◌}
-use mathlib.Core.Logic.{◌↔◌}
+use mathlib.Core.Path.{◌≡◌, sym, ap, ap₂, subst, ◌∙◌}
+use mathlib.Core.Logic.{◌≢◌, ◌↔◌}
 use mathlib.Core.List.{List, [], ◌++◌, map, Memᴰ as Mem, Nodup, IsChain}
 use Prim.Native.Nat.{ℕ, ◌≤◌, ◌<◌}
 use native.Mathlib.Omega.{arith}
@@ -15,17 +15,20 @@ use Rattle.paths.specs.Trimmed.{SameWays, Stays}
 use Rattle.paths.proofs.Theorems as graphs
 use Rattle.logs.specs.Words.{kind, number, word}
 use Rattle.logs.specs.Answer.{given, refused}
-use Rattle.logs.specs.Content.{HeardOf, LeastPause, SameContent}
-use Rattle.logs.specs.Log.{questions, content_of, graph_of}
+use Rattle.logs.specs.Content.{heard_graph, HeardOf, LeastPause, SameContent, longest_pause}
+use Rattle.logs.specs.Log.{questions, heard_from, content_of, graph_of, heard_count, without_pauses}
 use Rattle.logs.specs.Earlier.{Older}
 use Rattle.logs.specs.Earlier as earlier
 use Rattle.std.specs.Prelude.{Result}
 use Rattle.logs.specs.declared.Ceilings.{Ceilings}
 use Rattle.logs.specs.declared.Refusal.{Refusal}
 use Rattle.logs.proofs.Asked.{then_given, given_then, then_refused}
-use Rattle.logs.proofs.Laws.{links_below, graph_count}
-use Rattle.logs.proofs.Pauses.{same_links}
-use Rattle.logs.proofs.Older.{questions_older, graph_older, no_pause_lem}
+use Rattle.logs.proofs.Laws.{links_below, heard_count_words, heard_links_count}
+use Rattle.logs.proofs.Laws as laws
+use Rattle.logs.proofs.Counts.{same_links, counted_heard, count_at_most, count_whole, whole_where_count, old_graph, short_graph}
+use Rattle.logs.proofs.Counts as versions
+use Rattle.logs.proofs.Unpaused.{questions_unpaused, graph_unpaused, count_unpaused}
+use Rattle.logs.proofs.Older.{version_older, questions_older, graph_older, no_pause_lem}
 use Rattle.link_count.specs.Counted.{count_answer, count_asked}
 use Rattle.writing.specs.Layout.{report_words, loop_words, report_need, apart_of, threads_of, BeginsWith}
 use Rattle.parsing.specs.Whole.{IsReport, Whole, ThreadNumber, ThreadSteps}
@@ -45,7 +48,7 @@ use Rattle.trimmed_copy.specs.Trimmed.{trim_answer, TrimPasses, TrimLeft}
 use Rattle.trimmed_copy.proofs.Trimmed as trims
 use Rattle.promises.proofs.ThreadsLeft as threads
 use Rattle.promises.proofs.SmallLogs as small
-use Rattle.promises.proofs.SmallLogs.{Right, rows}
+use Rattle.promises.proofs.SmallLogs.{Right, rows, version_rows}
 use Rattle.report.proofs.Reported as calls
 use Rattle.report.proofs.Reported.{accepted_ends, accepted_acyclic, accepted_passes, passes_enough}
 
@@ -84,7 +87,7 @@ module _ (m : Ceilings) (l o w o' w' : List ℕ) (r : Outcome) (left : Left m l 
     λ enough. let g = report_given accepted enough in (g.0, g.1),
   )
 
-  -- The outcome is refusal 13 exactly when the log passes questions 1 to 12 and its graph has a loop.
+  -- The outcome is refusal 13 exactly when the log passes questions 1 to 12 and 18 and its graph has a loop.
   pub loop_exactly : ((k : ℕ) × (outcome_answer r ≡ refused 13 k))
       ↔ (Passes m l (length o) (length w) × ((c : List ℕ) × Loop (graph_of l) c))
   loop_exactly = (
@@ -98,12 +101,12 @@ module _ (m : Ceilings) (l o w o' w' : List ℕ) (r : Outcome) (left : Left m l 
       → ((c : List ℕ) × LoopShown (graph_of l) c × (length c ≡ k) × BeginsWith (loop_words c) o o') × (w' ≡ cleared w)
   loop_shown k e = let d = calls.refused_left m l o w o' w' r k left e in ((d.loop, d.shown, d.count, d.begins), d.work)
 
-  -- The outcome is refusal 1 to 12 exactly when questions 1 to 12 refuse with that number and place. It changes no buffer.
-  pub refused_exactly : (q p : ℕ) → q ≤ 12
+  -- The outcome is another refusal exactly when questions 1 to 12 and 18 refuse with that number and place. It changes no buffer.
+  pub refused_exactly : (q p : ℕ) → q ≢ 13
       → (outcome_answer r ≡ refused q p) ↔ (asked m (λ n t. report_need n) l (length o) (length w) ≡ refused q p)
   refused_exactly q p h = (λ e. (calls.refused_asked m l o w o' w' r q p h left e).0, calls.asked_refused m l o w o' w' r q p left)
 
-  pub refused_unchanged : (q p : ℕ) → q ≤ 12 → outcome_answer r ≡ refused q p → (o' ≡ o) × (w' ≡ w)
+  pub refused_unchanged : (q p : ℕ) → q ≢ 13 → outcome_answer r ≡ refused q p → (o' ≡ o) × (w' ≡ w)
   refused_unchanged q p h e = let d = calls.refused_asked m l o w o' w' r q p h left e in (d.1, d.2)
 
 -- 3. Of every report call with the outcome of a report.
@@ -157,19 +160,23 @@ report_fits l = calls.reported_fits
 pub loop_fits : (l c : List ℕ) → Loop (graph_of l) c → length (loop_words c) ≤ report_need (graph_of l).n
 loop_fits l = calls.loop_fits
 
--- 5. The scope's small logs, with the service's ceilings: a log passes questions 1 to 10 with its row's numbers, and what its row says holds
+-- 5. The scope's small logs, with the service's ceilings: a log passes questions 1 to 10 and 18 with its row's numbers, and what its row says holds
 -- of every call on it.
 pub small_logs : All Right rows
 small_logs = small.small_logs
 
+-- The same of six small logs with pauses round 360 minutes, of version 0 or 1.
+pub small_versions : All Right version_rows
+small_versions = small.small_versions
+
 -- 6. Of every fair copy call: `CopyLeft m l o w o' w' r` is its contract, and `copy_answer` gives the scope's numbers. The copy's words are the
 -- first `c` of the output.
 module _ (m : Ceilings) (l o w o' w' : List ℕ) (r : Result ℕ Refusal) (left : CopyLeft m l o w o' w' r) where
-  -- A copy is given exactly when questions 1 to 12 are answered yes; loops are copied like other links.
-  pub copy_exactly : ((c : ℕ) × (copy_answer r ≡ given c)) ↔ (copy_asked m l (length o) (length w) ≡ given ((graph_of l).n, length (graph_of l).links))
+  -- A copy is given exactly when questions 1 to 12 and 18 are answered yes; loops are copied like other links.
+  pub copy_exactly : ((c : ℕ) × (copy_answer r ≡ given c)) ↔ (copy_asked m l (length o) (length w) ≡ given ((graph_of l).n, heard_count l))
   copy_exactly = (λ (c, e). (copies.given_left m l o w o' w' r c left e).passes, λ passes. copies.asked_given_count m l o w o' w' r passes left)
 
-  -- It is refused exactly when questions 1 to 12 refuse, with that number and place. Then no buffer changes.
+  -- It is refused exactly when questions 1 to 12 and 18 refuse, with that number and place. Then no buffer changes.
   pub copy_refused_exactly : (q p : ℕ) → (copy_answer r ≡ refused q p) ↔ (copy_asked m l (length o) (length w) ≡ refused q p)
   copy_refused_exactly q p = (λ e. (copies.refused_asked m l o w o' w' r q p left e).0, copies.asked_refused m l o w o' w' r q p left)
 
@@ -186,18 +193,18 @@ module _ (m : Ceilings) (l o w o' w' : List ℕ) (r : Result ℕ Refusal) (left 
   copy_words_lem = (copy.words, copy.unchanged, copy.work)
 
   -- They are at most 2 + 2t, t being the to words of the log.
-  pub copy_fits : c ≤ fair_need (length (graph_of l).links)
+  pub copy_fits : c ≤ fair_need (heard_count l)
   copy_fits = rw copy.count (fair.copy_fits m l _ _ copy.read)
 
-  -- Read back as a log they pass questions 1 to 10, with the same n and a to word for each link; and the links are the same set.
-  pub copy_read_back : (questions m (take c o') ≡ given ((graph_of l).n, length (graph_of (take c o')).links))
+  -- Read back as a log they pass questions 1 to 10 and 18, with the same n and a to word for each link that was heard; and the same links count.
+  pub copy_read_back : (questions m (take c o') ≡ given ((graph_of l).n, heard_count (take c o')))
       × SameLinks (graph_of l) (graph_of (take c o'))
   copy_read_back =
       let same = fair.copy_same m l _ _ copy.read in
       let read = calls.read_graph m (fair_words (content_of l)) _ _ (fair.copy_read m l _ _ copy.read) in
-      rw copy.words (read ∙ ap (λ (k : ℕ). given (k, length (graph_of (fair_words (content_of l))).links)) (sym same.episodes), same)
+      rw copy.words (read ∙ ap (λ (k : ℕ). given (k, heard_count (fair_words (content_of l)))) (sym same.episodes), same)
 
-  -- The least pause of each link is the same too.
+  -- The version is the same, n, the set of links that were heard, and the least pause of each.
   pub copy_least_pauses : SameContent (content_of l) (content_of (take c o'))
   copy_least_pauses = rw copy.words (fair.copy_content m l _ _ copy.read)
 
@@ -205,13 +212,13 @@ module _ (m : Ceilings) (l o w o' w' : List ℕ) (r : Result ℕ Refusal) (left 
   pub copy_pauses : (a b p : ℕ) → HeardOf (content_of (take c o')) a b p ↔ LeastPause (content_of l) a b p
   copy_pauses a b p = rw copy.words (fair.copy_pauses m l _ _ copy.read a b p)
 
-  -- No link is repeated.
-  pub copy_once : Nodup (graph_of (take c o')).links
+  -- No link that was heard is repeated.
+  pub copy_once : Nodup (heard_graph (content_of (take c o'))).links
   copy_once = rw copy.words (fair.copy_once m l _ _ copy.read)
 
   -- In the order written the links rise, by the earlier episode and then by the later one; pauses do not matter for it.
-  pub copy_rising : IsChain Precedes (graph_of (take c o')).links
-  copy_rising = rw copy.words (fair.copy_rising _ _ (fair.log_fits m l _ _ copy.read))
+  pub copy_rising : IsChain Precedes (heard_graph (content_of (take c o'))).links
+  copy_rising = rw copy.words (fair.copy_rising _ _ _ (fair.log_fits m l _ _ copy.read))
 
   -- So the log and its copy have the same ways, covers and apart sets, width and furthest apart set, and the same loops.
   pub copy_ways : (a b : ℕ) → Way (graph_of l) a b ↔ Way (graph_of (take c o')) a b
@@ -235,13 +242,13 @@ module _ (m : Ceilings) (l o w o' w' : List ℕ) (r : Result ℕ Refusal) (left 
   -- A second call, at any ceilings and with any buffers, that gives a copy too.
   module _ (m₂ : Ceilings) (l₂ o₂ w₂ o₂' w₂' : List ℕ) (r₂ : Result ℕ Refusal) (left₂ : CopyLeft m₂ l₂ o₂ w₂ o₂' w₂' r₂) (c₂ : ℕ)
       (e₂ : copy_answer r₂ ≡ given c₂) where
-    -- The two copies are equal exactly when n, the sets of links and the least pause of each link agree.
+    -- The two copies are equal exactly when the versions, n, the sets of links that were heard and the least pause of each link agree.
     pub copies_equal : (take c o' ≡ take c₂ o₂') ↔ SameContent (content_of l) (content_of l₂)
     copies_equal =
         let second = copies.given_left m₂ l₂ o₂ w₂ o₂' w₂' r₂ c₂ left₂ e₂ in
         rw (copy.words, second.words) (fair.copies_equal m m₂ l l₂ _ _ _ _ copy.read second.read)
 
-    -- So where they are equal, n and the sets of links agree; and of two older logs they are equal exactly then.
+    -- So where they are equal, n and the links that count agree; and of two older logs they are equal exactly then.
     pub copies_links : take c o' ≡ take c₂ o₂' → SameLinks (graph_of l) (graph_of l₂)
     copies_links same = same_links (copies_equal.0 same)
 
@@ -288,9 +295,9 @@ module _ (m : Ceilings) (l o w o' w' : List ℕ) (r : Outcome) (left : Left m l 
       (given-thread.0, given-thread.2)
 
 -- 8. Of every trimmed copy call: `TrimLeft m l o w o' w' r` is its contract, and `trim_answer` gives the scope's numbers. The copy's words are the
--- first `c` of the output. Its questions 1 to 12 are those of a fair copy call.
+-- first `c` of the output. Its questions 1 to 12 and 18 are those of a fair copy call.
 module _ (m : Ceilings) (l o w o' w' : List ℕ) (r : Result ℕ Refusal) (left : TrimLeft m l o w o' w' r) where
-  -- A trimmed copy is given exactly when questions 1 to 12 are answered yes and the log's graph has no loop.
+  -- A trimmed copy is given exactly when questions 1 to 12 and 18 are answered yes and the log's graph has no loop.
   pub trim_exactly : ((c : ℕ) × (trim_answer r ≡ given c)) ↔ (TrimPasses m l (length o) (length w) × ((c : List ℕ) → Loop (graph_of l) c → ⊥))
   trim_exactly = (
     λ (c, e). let d = trims.given_left m l o w o' w' r c left e in (d.passes, trims.given_no_loop m l o w o' w' c d),
@@ -313,11 +320,11 @@ module _ (m : Ceilings) (l o w o' w' : List ℕ) (r : Result ℕ Refusal) (left 
       → ((c : List ℕ) × LoopShown (graph_of l) c × (length c ≡ k) × BeginsWith (loop_words c) o o') × (w' ≡ cleared w)
   trim_loop_shown k e = let d = trims.refused_left m l o w o' w' r k left e in (d.1, d.2)
 
-  -- The outcome is refusal 1 to 12 exactly when questions 1 to 12 refuse with that number and place. It changes no buffer.
-  pub trim_refused_exactly : (q p : ℕ) → q ≤ 12 → (trim_answer r ≡ refused q p) ↔ (copy_asked m l (length o) (length w) ≡ refused q p)
+  -- The outcome is another refusal exactly when questions 1 to 12 and 18 refuse with that number and place. It changes no buffer.
+  pub trim_refused_exactly : (q p : ℕ) → q ≢ 13 → (trim_answer r ≡ refused q p) ↔ (copy_asked m l (length o) (length w) ≡ refused q p)
   trim_refused_exactly q p h = (λ e. (trims.refused_asked m l o w o' w' r q p h left e).0, trims.asked_refused m l o w o' w' r q p left)
 
-  pub trim_refused_unchanged : (q p : ℕ) → q ≤ 12 → trim_answer r ≡ refused q p → (o' ≡ o) × (w' ≡ w)
+  pub trim_refused_unchanged : (q p : ℕ) → q ≢ 13 → trim_answer r ≡ refused q p → (o' ≡ o) × (w' ≡ w)
   trim_refused_unchanged q p h e = let d = trims.refused_asked m l o w o' w' r q p h left e in (d.1, d.2)
 
 module _ (m : Ceilings) (l o w o' w' : List ℕ) (r : Result ℕ Refusal) (left : TrimLeft m l o w o' w' r) (c : ℕ) (e : trim_answer r ≡ given c) where
@@ -330,16 +337,16 @@ module _ (m : Ceilings) (l o w o' w' : List ℕ) (r : Result ℕ Refusal) (left 
   trim_words = (trim.words, trim.unchanged, trim.work)
 
   -- They are at most 2 + 2t, t being the to words of the log.
-  pub trim_fits : c ≤ fair_need (length (graph_of l).links)
+  pub trim_fits : c ≤ fair_need (heard_count l)
   trim_fits = rw trim.count (trimming.trim_fits m l _ _ trim.read)
 
-  -- Read back as a log they pass questions 1 to 10, with the same n and a to word for each link; and the ways are the same.
-  pub trim_read_back : (questions m (take c o') ≡ given ((graph_of l).n, length (graph_of (take c o')).links))
+  -- Read back as a log they pass questions 1 to 10 and 18, with the same n and a to word for each link; and the ways are the same.
+  pub trim_read_back : (questions m (take c o') ≡ given ((graph_of l).n, heard_count (take c o')))
       × SameWays (graph_of l) (graph_of (take c o'))
   trim_read_back =
       let same = trimming.trim_ways m l _ _ trim.read trim.acyclic in
       let read = calls.read_graph m (trimmed_words (graph_of l)) _ _ (trimming.trim_read m l _ _ trim.read) in
-      rw trim.words (read ∙ ap (λ (k : ℕ). given (k, length (graph_of (trimmed_words (graph_of l))).links)) (sym same.episodes), same)
+      rw trim.words (read ∙ ap (λ (k : ℕ). given (k, heard_count (trimmed_words (graph_of l)))) (sym same.episodes), same)
 
   -- The links are those that stay: each is the only thread from its first episode to its second. None is repeated, they rise, and there is no
   -- loop.
@@ -355,7 +362,10 @@ module _ (m : Ceilings) (l o w o' w' : List ℕ) (r : Result ℕ Refusal) (left 
   pub trim_no_loop : (k : List ℕ) → Loop (graph_of (take c o')) k → ⊥
   trim_no_loop k = calls.loop_cyclic (graphs.ways_acyclic trim_read_back.1 trim.acyclic)
 
-  -- Each is written with pause 0.
+  -- The copy is of version 0, and each link is written with pause 0.
+  pub trim_version : (content_of (take c o')).version ≡ 0
+  trim_version = rw trim.words (trimming.trim_version m l _ _ trim.read)
+
   pub trim_pauses : (a b p : ℕ) → HeardOf (content_of (take c o')) a b p → p ≡ 0
   trim_pauses a b p = rw trim.words (trimming.trim_pause m l _ _ trim.read a b p)
 
@@ -384,7 +394,7 @@ module _ (m : Ceilings) (l o w o' w' : List ℕ) (r : Result ℕ Refusal) (left 
     second : trims.TrimGiven m₂ l₂ o₂ w₂ o₂' w₂' c₂
     second = trims.given_left m₂ l₂ o₂ w₂ o₂' w₂' r₂ c₂ left₂ e₂
 
-    -- The two trimmed copies are equal exactly when n and the ways agree.
+    -- The two trimmed copies are equal exactly when n and the ways agree, whatever the versions.
     pub trims_equal : (take c o' ≡ take c₂ o₂') ↔ SameWays (graph_of l) (graph_of l₂)
     trims_equal =
         rw (trim.words, second.words)
@@ -413,14 +423,18 @@ module _ (m : Ceilings) (l o w o' w' : List ℕ) (r : Result ℕ Refusal) (left 
           let third = trims.given_left m₃ l₃ o₃ w₃ o₃' w₃' r₃ c₃ left₃ e₃ in
           rw (third.words, is-fair, fair_second.words, is-log, trim.words) (trimming.fair_trim m l _ _ trim.read)
 
--- Every loop of a log that passes questions 1 to 10 fits the words that question 11 asks for.
+-- Every loop of a log that passes questions 1 to 10 and 18 fits the words that question 11 asks for.
 pub trim_loop_fits : (m : Ceilings) (l : List ℕ) (n t : ℕ) → questions m l ≡ given (n, t)
     → (c : List ℕ) → Loop (graph_of l) c → length (loop_words c) ≤ fair_need t
 trim_loop_fits = trimming.trim_loop_fits
 
--- 9. Of every older log, one in which the number of each to word is below 65,536: it has pause 0 everywhere, and the graph, the answer to questions
--- 1 to 10, the fair copy and the trimmed copy that it had before to words had pauses. What it had is said by the definitions as they were then.
+-- 9. Of every older log, one in which the number of the head is below 16,777,216 and that of each to word below 65,536: it is of version 0 and has
+-- pause 0 everywhere, and the graph, the answer to questions 1 to 10, the fair copy and the trimmed copy that it had before heads had versions and to
+-- words pauses. What it had is said by the definitions as they were then.
 module _ (l : List ℕ) (older : Older l) where
+  pub older_version : (content_of l).version ≡ 0
+  older_version = version_older l older
+
   pub older_pauses : (a b p : ℕ) → HeardOf (content_of l) a b p → p ≡ 0
   older_pauses a b p m = no_pause_lem l older _ m
 
@@ -436,10 +450,10 @@ module _ (l : List ℕ) (older : Older l) where
   pub older_trimmed : trimmed_words (graph_of l) ≡ earlier-copy.fair_words (trimmed (earlier.graph_of l))
   older_trimmed = copy_earlier (trimmed (graph_of l)) ∙ ap (λ (g : Graph). earlier-copy.fair_words (trimmed g)) (graph_older l older)
 
--- 10. Of every link count call: its contract is that its answer, `count_answer r`, is that of questions 1 to 10 and then the link count of the log's
--- graph, `count_asked m l`.
+-- 10. Of every link count call: its contract is that its answer, `count_answer r`, is that of questions 1 to 10 and 18 and then the link count of the
+-- log's graph, `count_asked m l`.
 module _ (m : Ceilings) (l : List ℕ) (r : Result ℕ Refusal) (answer : count_answer r ≡ count_asked m l) where
-  -- A count is given exactly when questions 1 to 10 are answered yes, loops or none, and then it is the log's.
+  -- A count is given exactly when questions 1 to 10 and 18 are answered yes, loops or none, and then it is the log's.
   pub count_exactly : (k : ℕ) → (count_answer r ≡ given k) ↔ (((n : ℕ) × (t : ℕ) × (questions m l ≡ given (n, t))) × (link_count (graph_of l) ≡ k))
   count_exactly k = (
     λ e. let (((n, t), read), same) = then_given (questions m l) (link_count (graph_of l)) k (sym answer ∙ e) in ((n, t, read), same),
@@ -457,27 +471,106 @@ module _ (m : Ceilings) (l : List ℕ) (r : Result ℕ Refusal) (answer : count_
   counted : link_count (graph_of l) ≡ k
   counted = ((count_exactly m l r answer k).0 e).1
 
-  -- The count is the length of every list without repeats that has exactly the log's links.
+  -- The count is the length of every list without repeats that has exactly the log's links, those that count.
   pub count_listed : (ls : List (ℕ × ℕ)) → Nodup ls → ((a b : ℕ) → Mem {A = ℕ × ℕ} (a, b) ls ↔ Link (graph_of l) a b) → length ls ≡ k
   count_listed ls once same = graphs.count_listed (graph_of l) ls once same ∙ counted
 
-  -- It is at most the count of to words that the reading gives, and equal to it exactly when no link is given twice.
-  pub count_words : (n t : ℕ) → questions m l ≡ given (n, t) → (k ≤ t) × ((k ≡ t) ↔ Nodup (graph_of l).links)
+  -- It is at most the count of to words that the reading gives, and equal to it exactly when no link was heard twice and each that was heard counts.
+  pub count_words : (n t : ℕ) → questions m l ≡ given (n, t)
+      → (k ≤ t)
+      × ((k ≡ t) ↔ (Nodup (heard_graph (content_of l)).links × ((a b : ℕ) → Link (heard_graph (content_of l)) a b → Link (graph_of l) a b)))
   count_words n t read =
-      let words = graph_count m l n t read in
-      let once = graphs.count_once (graph_of l) in (
-        omega (arith, counted, words, graphs.count_few (graph_of l)),
-        (λ same. once.0 (counted ∙ same ∙ sym words), λ nodup. sym counted ∙ once.1 nodup ∙ words),
+      let words = heard_links_count m l n t read in
+      let few = count_at_most (content_of l) in
+      let once = graphs.count_once (heard_graph (content_of l)) in (
+        omega (arith, counted, words, few, graphs.count_few (heard_graph (content_of l))),
+        (
+          λ same. (
+            once.0 (omega (arith, counted, words, few, graphs.count_few (heard_graph (content_of l)))),
+            whole_where_count (content_of l) (omega (arith, counted, heard_count_words m l n t read)),
+          ),
+          λ (nodup, all). sym counted ∙ count_whole (content_of l) all ∙ once.1 nodup ∙ words,
+        ),
       )
 
-  -- It is the count of to words of the fair copy, whichever call gives that.
+  -- It is at most the count of to words of the fair copy, whichever call gives that, and equal to it in version 0.
   pub count_fair : (m₂ : Ceilings) (o w o' w' : List ℕ) (r₂ : Result ℕ Refusal) → CopyLeft m₂ l o w o' w' r₂ → (c : ℕ) → copy_answer r₂ ≡ given c
-      → questions m₂ (take c o') ≡ given ((graph_of l).n, k)
+      → (j : ℕ) × (questions m₂ (take c o') ≡ given ((graph_of l).n, j)) × (k ≤ j) × ((content_of l).version ≡ 0 → k ≡ j)
   count_fair m₂ o w o' w' r₂ left c e₂ =
-      let copy = copies.given_left m₂ l o w o' w' r₂ c left e₂ in
-      rw (copy.words, ← counted) (fair.copy_count m₂ l _ _ copy.read)
+      let copy = copies.given_left m₂ l o w o' w' r₂ c left e₂ in (
+        link_count (heard_graph (content_of l)),
+        rw copy.words (fair.copy_count m₂ l _ _ copy.read),
+        omega (arith, counted, count_at_most (content_of l)),
+        λ old. sym counted ∙ ap link_count (old_graph (content_of l) old),
+      )
 
   -- Another log with the same links, at any ceilings, has the same count.
   pub counts_equal : (m₂ : Ceilings) (l₂ : List ℕ) (r₂ : Result ℕ Refusal) → count_answer r₂ ≡ count_asked m₂ l₂ → (k₂ : ℕ) → count_answer r₂ ≡ given k₂
       → SameLinks (graph_of l) (graph_of l₂) → k ≡ k₂
   counts_equal m₂ l₂ r₂ answer₂ k₂ e₂ same = sym counted ∙ graphs.count_same same ∙ ((count_exactly m₂ l₂ r₂ answer₂ k₂).0 e₂).1
+
+-- 11. Of versions. In version 0 a link counts whatever its pause; in version 1 it counts exactly when its least pause is at most 360 minutes, that is
+-- when some to word gives it with such a pause.
+module _ (l : List ℕ) where
+  pub version_0_counts : (content_of l).version ≡ 0 → (a b : ℕ) → Link (graph_of l) a b ↔ ((p : ℕ) × HeardOf (content_of l) a b p)
+  version_0_counts = versions.old_counts (content_of l)
+
+  pub version_1_counts : (content_of l).version ≡ 1 → (a b : ℕ)
+      → Link (graph_of l) a b ↔ ((p : ℕ) × LeastPause (content_of l) a b p × (p ≤ longest_pause))
+  version_1_counts = versions.new_counts (content_of l)
+
+  pub version_1_by_some_word : (content_of l).version ≡ 1 → (a b : ℕ) → Link (graph_of l) a b ↔ ((p : ℕ) × HeardOf (content_of l) a b p × (p ≤ longest_pause))
+  version_1_by_some_word = versions.new_some (content_of l)
+
+-- A log that passes questions 1 to 10 and 18 is of one of the two.
+pub version_known : (m : Ceilings) (l : List ℕ) (n t : ℕ) → questions m l ≡ given (n, t) → (content_of l).version ≤ 1
+version_known = laws.version_known
+
+-- Two logs of version 0.
+module _ (l l₂ : List ℕ) (old : (content_of l).version ≡ 0) (old₂ : (content_of l₂).version ≡ 0) where
+  -- Where n and the sets of links that were heard agree the graphs have the same links, so repeats change neither covers nor apart sets.
+  module _ (episodes : (content_of l).n ≡ (content_of l₂).n)
+      (heard : (a b : ℕ) → ((p : ℕ) × HeardOf (content_of l) a b p) ↔ ((p : ℕ) × HeardOf (content_of l₂) a b p)) where
+    pub repeats_same : SameLinks (graph_of l) (graph_of l₂)
+    repeats_same = versions.old_same (content_of l) (content_of l₂) old old₂ episodes heard
+
+    pub repeats_covers : (ts : List (List ℕ)) → Cover (graph_of l) ts ↔ Cover (graph_of l₂) ts
+    repeats_covers = graphs.same_covers repeats_same
+
+    pub repeats_apart : (s : List ℕ) → Apart (graph_of l) s ↔ Apart (graph_of l₂) s
+    repeats_apart = graphs.same_apart repeats_same
+
+  -- Where they have the same words but for the pauses of to words, they have the same graph. So a report does not depend on pauses: a call on the one
+  -- may leave exactly what it may leave on the other.
+  module _ (same : without_pauses l ≡ without_pauses l₂) where
+    pub graph_without_pauses : graph_of l ≡ graph_of l₂
+    graph_without_pauses = sym (graph_unpaused l old) ∙ ap graph_of same ∙ graph_unpaused l₂ old₂
+
+    pub report_without_pauses : (m : Ceilings) (o w o' w' : List ℕ) (r : Outcome) → Left m l o w o' w' r ↔ Left m l₂ o w o' w' r
+    report_without_pauses m o w o' w' r =
+        let read = sym (questions_unpaused m l) ∙ ap (questions m) same ∙ questions_unpaused m l₂ in
+        let links = graph_without_pauses in
+        let count = sym (count_unpaused l) ∙ ap heard_count same ∙ count_unpaused l₂ in
+        (calls.left_same m l l₂ read links count o w o' w' r, calls.left_same m l₂ l (sym read) (sym links) (sym count) o w o' w' r)
+
+-- One log in version 0 and in another one, of which only 1 passes: the same n, and the same words behind the head.
+module _ (l₀ l₁ : List ℕ) (old : (content_of l₀).version ≡ 0) (episodes : (content_of l₀).n ≡ (content_of l₁).n) (words : drop 1 l₀ ≡ drop 1 l₁) where
+  -- what the proofs below cite
+  heard_same : heard_graph (content_of l₁) ≡ heard_graph (content_of l₀)
+  heard_same = ap₂ (λ (k : ℕ) (ws : List ℕ). heard_graph (record { version = 0; n = k; heard = heard_from 0 ws })) (sym episodes) (sym words)
+
+  -- Where no pause is over 360 minutes it has the same graph in both.
+  pub short_same : All (λ h. h.pause ≤ longest_pause) (content_of l₁).heard → graph_of l₁ ≡ graph_of l₀
+  short_same short = short_graph (content_of l₁) short ∙ heard_same ∙ sym (old_graph (content_of l₀) old)
+
+  -- It has no link in the other version that it does not have in version 0. So every cover there is one in version 0, and version 1 never lowers the
+  -- width.
+  pub version_links : (a b : ℕ) → Link (graph_of l₁) a b → Link (graph_of l₀) a b
+  version_links a b k =
+      subst (λ (g : Graph). Link g a b) (heard_same ∙ sym (old_graph (content_of l₀) old)) (counted_heard (content_of l₁) a b k)
+
+  pub version_covers : (ts : List (List ℕ)) → Cover (graph_of l₁) ts → Cover (graph_of l₀) ts
+  version_covers = graphs.more_cover (sym episodes) version_links
+
+  pub version_width : (j k : ℕ) → Width (graph_of l₀) j → Width (graph_of l₁) k → j ≤ k
+  version_width j k (ts, cover, smallest, size) (ts₁, cover₁, smallest₁, size₁) = omega (arith, smallest ts₁ (version_covers ts₁ cover₁))

@@ -26,7 +26,7 @@ use Rattle.paths.proofs.Checker.{
 use Rattle.paths.proofs.Worked as worked
 use Rattle.logs.specs.Words.{number, word}
 use Rattle.logs.specs.Answer.{given, refused}
-use Rattle.logs.specs.Log.{heard_from, questions, graph_of}
+use Rattle.logs.specs.Log.{heard_from, questions, graph_of, heard_count}
 use Rattle.logs.specs.declared.Ceilings.{Ceilings}
 use Rattle.writing.specs.Layout.{thread_words, threads_words, ended, report_words, loop_words, report_need, apart_of, threads_of}
 use Rattle.report.specs.Report.{outcome_answer, asked, cleared, Reported, Passes, Left}
@@ -111,7 +111,7 @@ cover_right g s f h =
           (e, each_right f (covers g s) q.1 ts (covers_all g s ts (subst (λ (x : List ℕ). Reported g x ts) e r))),
     )
 
--- what is said of the log `l` is so, if the log passes questions 1 to 10
+-- what is said of the log `l` is so, if the log passes questions 1 to 10 and 18
 unfoldable pub said_test : List ℕ → Said → Bool
 unfolding cover_test same each member loops loop_test heard_from apart_of report_words ended threads_words thread_words loop_words
 said_test l (report ws) = cover_test (graph_of l) (apart_of ws) (λ ts. same (report_words (apart_of ws) ts) ws)
@@ -120,8 +120,8 @@ said_test l (loop p ws) =
     loop_test (graph_of l) (map number (drop 1 ws)) && each (λ c. eqb (length c) p && same (loop_words c) ws) (loops (graph_of l))
 said_test l (short k p) = not (leb (report_need (graph_of l).n) k) && eqb (report_need (graph_of l).n) p
 
--- Where the test passes, what is said is so of every call on a log that passes questions 1 to 10.
-module _ (m : Ceilings) (l : List ℕ) (read : questions m l ≡ given ((graph_of l).n, length (graph_of l).links)) (o w o' w' : List ℕ) (r : Outcome)
+-- Where the test passes, what is said is so of every call on a log that passes questions 1 to 10 and 18.
+module _ (m : Ceilings) (l : List ℕ) (read : questions m l ≡ given ((graph_of l).n, heard_count l)) (o w o' w' : List ℕ) (r : Outcome)
     (left : Left m l o w o' w' r) where
   passes : LentEnough l (length o) (length w) → Passes m l (length o) (length w)
   passes = calls.read_passes m l read (length o) (length w)
@@ -180,7 +180,7 @@ module _ (m : Ceilings) (l : List ℕ) (read : questions m l ≡ given ((graph_o
       let q = both (not (leb need k)) (eqb need p) h in
       let few : length o < need = rw e (nleb→lt need k q.0) in
       let asks : asked m (λ n t. report_need n) l (length o) (length w) ≡ refused 11 p =
-      asked_read m (λ n t. report_need n) l (length o) (length w) (graph_of l).n (length (graph_of l).links) read
+      asked_read m (λ n t. report_need n) l (length o) (length w) (graph_of l).n (heard_count l) read
       ∙ rw (lt-leb need (length o) few) (ap (refused 11) (eqb→eq need p q.1)) in
       let f = calls.asked_refused m l o w o' w' r 11 p left asks in
       let d = calls.refused_asked m l o w o' w' r 11 p (omega arith) left f in

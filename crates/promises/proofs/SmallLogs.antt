@@ -1,12 +1,15 @@
--- The scope's small logs, those that are to be proved: one list of rows, and one theorem of all of them.
+-- The scope's small logs, those that are to be proved, and small logs of both versions: two lists of rows, and a theorem of each.
 use mathlib.Core.Path.{◌≡◌}
+use mathlib.Core.Logic.Dec
 use mathlib.Core.Bool.{Bool, false, ◌&&◌}
 use mathlib.Core.List.{List, [], ◌∷◌}
 use Prim.Native.Nat.{ℕ}
+use native.Mathlib.Decide.{ℕ_discrete}
 use lib.Dec.{T, eqb, eqb→eq}
 use Rattle.order.specs.Order.{All}
 use Rattle.paths.specs.Links.{linked, distinct, link_count}
 use Rattle.paths.proofs.Checker.{both, each, each_right}
+use Rattle.logs.specs.Content.{pauses_of, least, counting}
 use Rattle.logs.specs.Answer.{Answer, given, refused}
 use Rattle.logs.specs.Log.{service, onwards, group_word, end_word, questions, heard_from, graph_of}
 use Rattle.report.specs.Report.{Left}
@@ -101,8 +104,66 @@ rows =
     ∷ record { log = 0x10000001 ∷ 0xF0000000 ∷ []; episodes = 1; words = 0; links = 0; says = short 4 5 }
     ∷ []
 
--- A row is right: the log passes questions 1 to 10 with its episodes and to words, its graph has its link count, and what is said holds of every
--- call.
+-- rows of both versions
+abbrev pub version_rows : List Row
+version_rows =
+    -- version 1, 0-1 after 360 minutes
+    record {
+      log = 0x11000002 ∷ 0x20000000 ∷ 0x31680001 ∷ 0xF0000001 ∷ [];
+      episodes = 2;
+      words = 1;
+      links = 1;
+      says = report (0x40000001 ∷ 0x50000001 ∷ 0x60000002 ∷ 0x70000000 ∷ 0x70000001 ∷ 0xF0000005 ∷ []);
+    }
+    -- version 1, the whole example's links and 3-4 after 361 minutes
+    ∷ record {
+      log = 0x11000005 ∷ 0x20000000 ∷ 0x30000001 ∷ 0x20000002 ∷ 0x30000003 ∷ 0x20000003 ∷ 0x31690004 ∷ 0xF0000003 ∷ [];
+      episodes = 5;
+      words = 3;
+      links = 2;
+      says =
+          report (
+          0x40000003 ∷ 0x50000001 ∷ 0x50000003 ∷ 0x50000004
+          ∷ 0x60000002 ∷ 0x70000000 ∷ 0x70000001 ∷ 0x60000002 ∷ 0x70000002 ∷ 0x70000003 ∷ 0x60000001 ∷ 0x70000004
+          ∷ 0xF000000C ∷ []
+          );
+    }
+    -- version 0, 0-1 after 361 minutes
+    ∷ record {
+      log = 0x10000002 ∷ 0x20000000 ∷ 0x31690001 ∷ 0xF0000001 ∷ [];
+      episodes = 2;
+      words = 1;
+      links = 1;
+      says = report (0x40000001 ∷ 0x50000001 ∷ 0x60000002 ∷ 0x70000000 ∷ 0x70000001 ∷ 0xF0000005 ∷ []);
+    }
+    -- version 1, 0-1 after 400 minutes and after 200
+    ∷ record {
+      log = 0x11000002 ∷ 0x20000000 ∷ 0x31900001 ∷ 0x30C80001 ∷ 0xF0000002 ∷ [];
+      episodes = 2;
+      words = 2;
+      links = 1;
+      says = report (0x40000001 ∷ 0x50000001 ∷ 0x60000002 ∷ 0x70000000 ∷ 0x70000001 ∷ 0xF0000005 ∷ []);
+    }
+    -- version 1, 0-1 at once and 1-0 after 361 minutes
+    ∷ record {
+      log = 0x11000002 ∷ 0x20000000 ∷ 0x30000001 ∷ 0x20000001 ∷ 0x31690000 ∷ 0xF0000002 ∷ [];
+      episodes = 2;
+      words = 2;
+      links = 1;
+      says = report (0x40000001 ∷ 0x50000001 ∷ 0x60000002 ∷ 0x70000000 ∷ 0x70000001 ∷ 0xF0000005 ∷ []);
+    }
+    -- version 0, the same: a loop
+    ∷ record {
+      log = 0x10000002 ∷ 0x20000000 ∷ 0x30000001 ∷ 0x20000001 ∷ 0x31690000 ∷ 0xF0000002 ∷ [];
+      episodes = 2;
+      words = 2;
+      links = 2;
+      says = loop 2 (0x80000002 ∷ 0x70000000 ∷ 0x70000001 ∷ []);
+    }
+    ∷ []
+
+-- A row is right: the log passes questions 1 to 10 and 18 with its episodes and to words, its graph has its link count, and what is said holds of
+-- every call.
 abbrev pub Right : Row → Type 0
 Right row =
     (questions service row.log ≡ given (row.episodes, row.words))
@@ -123,21 +184,24 @@ gives_right (given (j, u)) n t h =
     λ i. given (e i, f i)
 gives_right (refused q p) n t h = absurd h
 
--- a row that passes is right
+-- the test of a row
 row_test : Row → Bool
 row_test row =
     gives (questions service row.log) row.episodes row.words
     && (eqb (link_count (graph_of row.log)) row.links && said_test row.log row.says)
 
 rows_pass : T (each row_test rows)
-unfolding each row_test gives said_test questions onwards group_word end_word heard_from linked distinct
+unfolding each row_test gives said_test questions onwards group_word end_word heard_from counting linked distinct
 rows_pass = tt
 
--- Every row is right.
-pub small_logs : All Right rows
+version_rows_pass : T (each row_test version_rows)
+unfolding each row_test gives said_test questions onwards group_word end_word heard_from pauses_of least Dec.and ℕ_discrete counting linked distinct
+version_rows_pass = tt
+
+-- a row that passes is right
+row_right : (row : Row) → T (row_test row) → Right row
 unfolding row_test
-small_logs row i =
-    let h = each_right row_test rows rows_pass row i in
+row_right row h =
     let passed = gives (questions service row.log) row.episodes row.words in
     let counted = eqb (link_count (graph_of row.log)) row.links in
     let said = said_test row.log row.says in
@@ -149,3 +213,10 @@ small_logs row i =
       eqb→eq (link_count (graph_of row.log)) row.links p.0,
       λ o w o' w' r left. said_right service row.log graph o w o' w' r left row.says p.1,
     )
+
+-- Every row is right.
+pub small_logs : All Right rows
+small_logs row i = row_right row (each_right row_test rows rows_pass row i)
+
+pub small_versions : All Right version_rows
+small_versions row i = row_right row (each_right row_test version_rows version_rows_pass row i)

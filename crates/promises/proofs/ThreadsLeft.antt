@@ -6,7 +6,7 @@ use native.Mathlib.Omega.{arith}
 use lib.ListN.{length, take, get_or}
 use Rattle.order.specs.Order.{Chain, single, more}
 use Rattle.logs.specs.Words.{number, word, Small}
-use Rattle.logs.specs.Log.{graph_of}
+use Rattle.logs.specs.Log.{graph_of, heard_count}
 use Rattle.logs.specs.declared.Ceilings.{Ceilings}
 use Rattle.logs.proofs.Laws.{few_episodes}
 use Rattle.writing.specs.Layout.{apart_of, threads_of}
@@ -46,7 +46,7 @@ module _ (m : Ceilings) (l o w o' w' : List ℕ) (c : ℕ) (few : m.episodes < 2
   few_left : (graph_of l).n < 256
   few_left =
       let accepted = report_accepted m l o w o' w' c d in
-      omega (arith, few_episodes m l (graph_of l).n (length (graph_of l).links) accepted.read)
+      omega (arith, few_episodes m l (graph_of l).n (heard_count l) accepted.read)
 
   small_left : Small (graph_of l).n
   small_left = omega (arith, few_left)

@@ -1,7 +1,8 @@
 -- What the steps from a log to its matrix of ways leave.
 use Rattle.std.specs.Prelude.{◌≡◌, Option, Some, None, ℕ, ◌+◌, ◌*◌, ◌≤◌, ◌<◌, max, min, get_or}
 use mathlib.Core.List.{List, ◌++◌, map, Memᴰ as Mem}
-use Rattle.logs.specs.Words.{to_episode}
+use Rattle.logs.specs.Content.{joins, short_of}
+use Rattle.logs.specs.Groups.{told}
 use Rattle.paths.specs.Graph.{Graph, EndsBelow, Link, Way}
 use Rattle.paths.specs.Closure.{WayBelow}
 use Rattle.logs.specs.Log.{graph_of}
@@ -16,16 +17,16 @@ NoneMarked w = (i : ℕ) → i < next_at → get_or w i 0 ≡ 0
 abbrev pub Marked : List (ℕ × ℕ) → List ℕ → Type 0
 Marked ls w = Matrix links_at w (λ a b. Mem (a, b) ls)
 
--- the links that the to words `ws` give in a group of `a`
-abbrev pub links_of : ℕ → List ℕ → List (ℕ × ℕ)
-links_of a ws = map (λ w. (a, to_episode w)) ws
+-- the links that the to words `ws` give in a group of `a`, of those that count by their own pause in version `v`
+abbrev pub links_of : ℕ → ℕ → List ℕ → List (ℕ × ℕ)
+links_of v a ws = map joins (short_of v (map (told a) ws))
 
--- the links of a group are marked besides
-pub record GroupMarked (a : ℕ) (ws w w' : List ℕ) : Type 0 where
+-- the links of a group that count in version `v` by their own pause are marked besides
+pub record GroupMarked (v a : ℕ) (ws w w' : List ℕ) : Type 0 where
   pub outside : Outside links_at ways_at w w'
-  pub links : (ls : List (ℕ × ℕ)) → Marked ls w → Marked (ls ++ links_of a ws) w'
+  pub links : (ls : List (ℕ × ℕ)) → Marked ls w → Marked (ls ++ links_of v a ws) w'
 
--- the first matrix holds the links of the log
+-- the first matrix holds the links of the log that count
 pub record LinksMarked (l w w' : List ℕ) : Type 0 where
   pub outside : Outside links_at ways_at w w'
   pub links : Matrix links_at w' (Link (graph_of l))

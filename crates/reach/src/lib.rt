@@ -1,9 +1,12 @@
-// Who has a way to whom: the links of a log as a matrix of bits, and its closure. The steps take the words of both matrices alone; what is public
-// takes longer words too, so its contract says that these are within them. The bound of a number stands where the number is a parameter by itself.
+// Who has a way to whom: the links of a log that count as a matrix of bits, and its closure. The steps take the words of both matrices alone; what is
+// public takes longer words too, so its contract says that these are within them. The bound of a number stands where the number is a parameter by
+// itself.
 #![tactic(auto)]
 
-ghost use Rattle.std.specs.Prelude.{◌+◌, ◌*◌, ◌<◌, ◌≤◌, IfSome, length};
+ghost use Rattle.std.specs.Prelude.{◌+◌, ◌*◌, ◌/◌, ◌<◌, ◌≤◌, IfSome, length};
+ghost use Rattle.logs.specs.Content.{short_enough};
 ghost use Rattle.logs.specs.Groups.{EpisodesBelow};
+ghost use Rattle.bits.specs.Bits.{SetWhere};
 ghost use Rattle.bits.specs.Work.{next_at};
 ghost use Rattle.rising.specs.Rising.{NoWays};
 ghost use Rattle.reach.specs.Reach.{NoneMarked, GroupMarked, LinksMarked, LinksCopied, HoldsWays, RowClosed, RoundClosed, Closed, WaysReached};
@@ -12,25 +15,39 @@ ghost use Rattle.reach.specs.Reach.{ReachedLog, FirstLoop, episode_or};
 use bits::{LINKS, NEXT, WAYS};
 use logs::{Group, Log, ToWord};
 
-// Marks the links of a group in the row of its episode. As in `copying`, but for what is done at each to word: a trait for that would be longer than
-// both.
-fn mark_group(group: Group, w: &mut [u32; NEXT])
-    requires { (group.from < 256) × EpisodesBelow 256 group.to_words.now }
-    ensures { GroupMarked group.entry.from group.entry.to_words.now w.old w.new }
+// Marks the link of a to word in the row that starts at word `row`, where its pause lets it count in this version. In version 0 its pause is not looked
+// at, and in version 1 it is not branched on, since the processor could not foresee it.
+fn mark_link(version: u32, to: ToWord, row: usize, w: &mut [u32; NEXT])
+    requires { row + to.episode / 32 < next_at }
+    ensures { SetWhere (short_enough version to.pause) w.old w.new row to.episode }
 {
-    let row = LINKS + 8 * group.from;
-    for to in group.to_words {
-        bits::set_bit(w, row, ToWord::from(*to).episode);
+    if version == 0 {
+        bits::set_bit(w, row, to.episode);
+    } else {
+        bits::set_bit_where(w, row, to.episode, logs::short_enough(version, to.pause));
     }
 }
 
-// Marks the links of a log, group by group.
+// Marks the links of a group in the row of its episode, where their pauses let them count in this version. As in `copying`, but for what is done at
+// each to word: a trait for that would be longer than both.
+fn mark_group(group: Group, version: u32, w: &mut [u32; NEXT])
+    requires { (group.from < 256) × EpisodesBelow 256 group.to_words.now }
+    ensures { GroupMarked version group.entry.from group.entry.to_words.now w.old w.new }
+{
+    let row = LINKS + 8 * group.from;
+    for word in group.to_words {
+        mark_link(version, ToWord::from(*word), row, w);
+    }
+}
+
+// Marks the links of a log that count, group by group.
 fn mark_links(log: Log, w: &mut [u32; NEXT])
     requires { (log.episodes ≤ 256) × NoneMarked w.old }
     ensures { LinksMarked log.entry.words.now w.old w.new }
 {
+    let version = log.version();
     for group in log.groups() {
-        mark_group(group, w);
+        mark_group(group, version, w);
     }
 }
 

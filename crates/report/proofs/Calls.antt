@@ -5,7 +5,7 @@ use Prim.Native.Nat.{ℕ, ◌≤◌, ◌<◌}
 use native.Mathlib.Omega.{arith}
 use lib.ListN.{length, drop, replicate}
 use Rattle.logs.specs.Answer.{given, refused}
-use Rattle.logs.specs.Log.{questions, graph_of, PassesWith}
+use Rattle.logs.specs.Log.{questions, graph_of, heard_count, PassesWith}
 use Rattle.logs.specs.declared.Ceilings.{Ceilings}
 use Rattle.logs.proofs.Laws.{few_episodes, graph_episodes, links_below}
 use Rattle.bits.specs.Work.{used_words}
@@ -19,7 +19,7 @@ use Rattle.report.specs.declared.Outcome.TheVariants.{Report, Loop as Looped, Re
 use Rattle.report.proofs.Asked.{asked_given, asked_passes}
 use Rattle.report.proofs.Reported.{read_graph}
 
--- refused by 1 to 12
+-- refused by 1 to 12 or 18
 pub left_denied : (m : Ceilings) (l o w : List ℕ) (q p : ℕ) → asked m (λ j u. report_need j) l (length o) (length w) ≡ refused q p
     → Left m l o w o w (Refused q p)
 unfolding Left
@@ -36,7 +36,7 @@ module _ (m : Ceilings) (l o w : List ℕ) (n t : ℕ) (e : asked m (λ j u. rep
   passes : Passes m l (length o) (length w)
   passes =
       let f = graph_episodes m l n t passed.0 in
-      asked_passes m (λ j u. report_need j) l (length o) (length w) (graph_of l).n (length (graph_of l).links) (read_graph m l n t passed.0)
+      asked_passes m (λ j u. report_need j) l (length o) (length w) (graph_of l).n (heard_count l) (read_graph m l n t passed.0)
       (rw f passed.1) passed.2
 
   pub left_answered : (o' : List ℕ) {w' : List ℕ} (r : Outcome) → Answered (graph_of l) o o' r → w' ≡ cleared w → Left m l o w o' w' r

@@ -1,13 +1,12 @@
 -- What a call of any service leaves, told by its answer: the laws are the same for all outcomes.
-use mathlib.Core.Path.{◌≡◌, sym, subst, ◌∙◌}
-use mathlib.Core.Logic.{◌⊎◌, inl, inr, ⊎_elim}
-use Prim.Native.Nat.{ℕ, ◌≤◌}
-use native.Mathlib.Omega.{arith}
+use mathlib.Core.Path.{◌≡◌, refl, sym, subst, ◌∙◌}
+use mathlib.Core.Logic.{◌≢◌, ◌⊎◌, inl, inr, ⊎_elim}
+use Prim.Native.Nat.{ℕ}
 use Rattle.logs.specs.Answer.{Answer, given, refused}
 use Rattle.logs.proofs.Asked.{not_both}
 
--- The answer `a` of a call whose questions 1 to 12 answer `asks`. Either it is refused as they are, and `Same` holds; or they are answered yes, with
--- `counts`, and the call shows a loop or gives what the service gives.
+-- The answer `a` of a call whose questions 1 to 12 and 18 answer `asks`. Either it is refused as they are, and `Same` holds; or they are answered yes,
+-- with `counts`, and the call shows a loop or gives what the service gives.
 pub data Leaves (asks : Answer (ℕ × ℕ)) (counts : ℕ × ℕ) (Gives Loops : ℕ → Type 0) (Same : Type 0) (a : Answer ℕ) : Type 0 where
   denied : (q p : ℕ) → a ≡ refused q p → asks ≡ refused q p → Same → Leaves asks counts Gives Loops Same a
   looped : (k : ℕ) → a ≡ refused 13 k → asks ≡ given counts → Loops k → Leaves asks counts Gives Loops Same a
@@ -44,10 +43,10 @@ module _ {asks : Answer (ℕ × ℕ)} {counts : ℕ × ℕ} {Gives Loops : ℕ �
   asked_refused (looped k f e s) q p g = absurd (not_both asks counts q p e g)
   asked_refused (gave c f e s) q p g = absurd (not_both asks counts q p e g)
 
-  -- the questions refuse with 1 to 12 alone, so 13 is a loop, and a lower number is theirs
-  pub refused_loop : ((q p : ℕ) → asks ≡ refused q p → q ≤ 12) → Leaves asks counts Gives Loops Same a → (k : ℕ) → a ≡ refused 13 k
+  -- the questions do not refuse with 13, so that is a loop, and any other number is theirs
+  pub refused_loop : ((q p : ℕ) → asks ≡ refused q p → q ≢ 13) → Leaves asks counts Gives Loops Same a → (k : ℕ) → a ≡ refused 13 k
       → (asks ≡ given counts) × Loops k
-  refused_loop most h k g = ⊎_elim (λ d. let le = most 13 k d.0 in absurd (omega arith)) (λ d. (d.1, d.2)) (refused_by h 13 k g)
+  refused_loop other h k g = ⊎_elim (λ d. absurd (other 13 k d.0 refl)) (λ d. (d.1, d.2)) (refused_by h 13 k g)
 
-  pub refused_asked : Leaves asks counts Gives Loops Same a → (q p : ℕ) → q ≤ 12 → a ≡ refused q p → (asks ≡ refused q p) × Same
-  refused_asked h q p le g = ⊎_elim (λ d. d) (λ d. let e = d.0 in absurd (omega arith)) (refused_by h q p g)
+  pub refused_asked : Leaves asks counts Gives Loops Same a → (q p : ℕ) → q ≢ 13 → a ≡ refused q p → (asks ≡ refused q p) × Same
+  refused_asked h q p other g = ⊎_elim (λ d. d) (λ d. absurd (other d.0)) (refused_by h q p g)

@@ -1,6 +1,6 @@
 -- What a report call that meets the contract leaves, read back from the words that it has written.
-use mathlib.Core.Path.{◌≡◌, refl, sym, ap, subst, ◌∙◌}
-use mathlib.Core.Logic.{⊎_elim}
+use mathlib.Core.Path.{◌≡◌, refl, sym, ap, ap₂, subst, ◌∙◌}
+use mathlib.Core.Logic.{◌≢◌, ⊎_elim}
 use mathlib.Core.List.{List, ◌++◌}
 use Prim.Native.Nat.{ℕ, ◌≤◌, ◌<◌}
 use native.Mathlib.Omega.{arith}
@@ -18,18 +18,18 @@ use Rattle.paths.proofs.Theorems.{
 }
 use Rattle.logs.specs.Words.{kind, number, word, Small}
 use Rattle.logs.specs.Answer.{Answer, given, refused}
-use Rattle.logs.specs.Log.{questions, graph_of}
+use Rattle.logs.specs.Log.{questions, graph_of, heard_count}
 use Rattle.logs.specs.declared.Ceilings.{Ceilings}
-use Rattle.logs.proofs.Words.{number_lt, kind_word, number_word}
-use Rattle.logs.proofs.Laws.{graph_episodes, graph_count, links_below}
+use Rattle.logs.proofs.Words.{kind_word, number_word}
+use Rattle.logs.proofs.Laws.{graph_episodes, heard_count_words, links_below}
 use Rattle.writing.specs.Layout.{report_words, loop_words, report_need, SmallThread, apart_of, threads_of, BeginsWith}
-use Rattle.report.specs.Report.{outcome_answer, asked, cleared, Reported, LoopShown, Passes, Left}
+use Rattle.report.specs.Report.{outcome_answer, asked, cleared, Reported, LoopShown, Passes, ShowsLoop, ShowsReport, Left}
 use Rattle.report.specs.Accepted.{Accepted, LentEnough}
 use Rattle.report.specs.declared.Outcome.{Outcome}
 use Rattle.report.specs.declared.Outcome.TheVariants.{Report, Loop as Looped, Refused}
 use Rattle.writing.proofs.Buffers.{begins_words}
 use Rattle.writing.proofs.Layouts.{length_loop, report_fits_need, report_head, apart_of_report, threads_of_report}
-use Rattle.report.proofs.Asked.{asked_passes, asked_given, asked_most}
+use Rattle.report.proofs.Asked.{asked_passes, asked_given, asked_same, asked_other}
 use Rattle.report.proofs.Outcomes as outcomes
 use Rattle.report.proofs.Outcomes.{Leaves, denied, looped, gave}
 
@@ -86,7 +86,7 @@ module _ (m : Ceilings) (l o w o' w' : List ℕ) where
   report_left : (c : ℕ) → Left m l o w o' w' (Report c) → ReportLeft m l o w o' w' c
   unfolding Left
   report_left c (passes, (apart, threads, reported, count, begins), work) =
-      let few : Small (graph_of l).n = number_lt (get_or l 0 0) in
+      let few : Small (graph_of l).n = omega arith in
       let (at, unchanged) = begins_words (report_words apart threads) o o' begins c count in
       let a : apart_of (take c o') ≡ apart = rw at (apart_read few reported) in
       let t : threads_of (take c o') ≡ threads = rw at (threads_read few reported) in
@@ -104,7 +104,7 @@ module _ (m : Ceilings) (l o w o' w' : List ℕ) where
   loop_left k (passes, (loop, shown, count, begins), work) =
       record { passes = passes; loop = loop; shown = shown; count = count; begins = begins; work = work }
 
--- questions 1 to 12 of a report call
+-- questions 1 to 12 and 18 of a report call
 abbrev Asks : Ceilings → (l o w : List ℕ) → Answer (ℕ × ℕ)
 Asks m l o w = asked m (λ n t. report_need n) l (length o) (length w)
 
@@ -114,7 +114,7 @@ loop_cyclic acyclic o = acyclic o.first (loop_to_way o)
 
 module _ (m : Ceilings) (l o w o' w' : List ℕ) where
   leaves : (r : Outcome) → Left m l o w o' w' r
-      → Leaves (Asks m l o w) ((graph_of l).n, length (graph_of l).links) (ReportLeft m l o w o' w') (LoopLeft m l o w o' w') ((o' ≡ o) × (w' ≡ w))
+      → Leaves (Asks m l o w) ((graph_of l).n, heard_count l) (ReportLeft m l o w o' w') (LoopLeft m l o w o' w') ((o' ≡ o) × (w' ≡ w))
       (outcome_answer r)
   unfolding Left
   leaves (Report c) left = gave c refl left.0 (report_left m l o w o' w' c left)
@@ -128,7 +128,7 @@ module _ (m : Ceilings) (l o w o' w' : List ℕ) where
   -- a call with refusal 13 has left a loop
   pub refused_left : (r : Outcome) (k : ℕ) → Left m l o w o' w' r → outcome_answer r ≡ refused 13 k → LoopLeft m l o w o' w' k
   refused_left r k left e =
-      (outcomes.refused_loop (asked_most m (λ n t. report_need n) l (length o) (length w)) (leaves r left) k e).1
+      (outcomes.refused_loop (asked_other m (λ n t. report_need n) l (length o) (length w)) (leaves r left) k e).1
 
   -- an acyclic graph's call whose questions are answered yes gives a count
   pub acyclic_given : (r : Outcome) → Passes m l (length o) (length w) → Acyclic (graph_of l) → Left m l o w o' w' r
@@ -142,29 +142,43 @@ module _ (m : Ceilings) (l o w o' w' : List ℕ) where
   loop_refused r c passes loop left =
       ⊎_elim (λ (d, e, g). absurd (loop_cyclic g.reported.acyclic loop)) (λ (k, e, d). (k, e)) (outcomes.asked_yes (leaves r left) passes)
 
-  -- a call refuses with 1 to 12 exactly when the questions do
-  pub refused_asked : (r : Outcome) (q p : ℕ) → q ≤ 12 → Left m l o w o' w' r → outcome_answer r ≡ refused q p
+  -- a call refuses with any number but 13 exactly when the questions do
+  pub refused_asked : (r : Outcome) (q p : ℕ) → q ≢ 13 → Left m l o w o' w' r → outcome_answer r ≡ refused q p
       → (Asks m l o w ≡ refused q p) × (o' ≡ o) × (w' ≡ w)
   refused_asked r q p h left e = let (asks, same) = outcomes.refused_asked (leaves r left) q p h e in (asks, same.0, same.1)
 
   pub asked_refused : (r : Outcome) (q p : ℕ) → Left m l o w o' w' r → Asks m l o w ≡ refused q p → outcome_answer r ≡ refused q p
   asked_refused r q p left e = outcomes.asked_refused (leaves r left) q p e
 
--- The graph has the episodes and the links that questions 1 to 10 count.
-pub read_graph : (m : Ceilings) (l : List ℕ) (n t : ℕ) → questions m l ≡ given (n, t)
-    → questions m l ≡ given ((graph_of l).n, length (graph_of l).links)
-read_graph m l n t e = rw (graph_episodes m l n t e, graph_count m l n t e) e
+-- The contract looks at a log by its questions, its graph and its count of to words alone.
+module _ (m : Ceilings) (l l₂ : List ℕ) (read : questions m l ≡ questions m l₂) (links : graph_of l ≡ graph_of l₂) (count : heard_count l ≡ heard_count l₂)
+    (o w o' w' : List ℕ) where
+  passes_same : Passes m l (length o) (length w) → Passes m l₂ (length o) (length w)
+  passes_same e =
+      sym (asked_same m (λ n t. report_need n) l l₂ (length o) (length w) read) ∙ e
+      ∙ ap₂ (λ (n t : ℕ). given (n, t)) (ap (λ (g : Graph). g.n) links) count
 
--- A log that passes questions 1 to 10 passes 11 and 12 too where the buffers are long enough.
-pub read_passes : (m : Ceilings) (l : List ℕ) → questions m l ≡ given ((graph_of l).n, length (graph_of l).links) → (out work : ℕ)
+  pub left_same : (r : Outcome) → Left m l o w o' w' r → Left m l₂ o w o' w' r
+  unfolding Left
+  left_same (Refused q p) (e, out, work) = (sym (asked_same m (λ n t. report_need n) l l₂ (length o) (length w) read) ∙ e, out, work)
+  left_same (Looped c) (e, shown, work) = (passes_same e, subst (λ (g : Graph). ShowsLoop g c o o') links shown, work)
+  left_same (Report c) (e, shown, work) = (passes_same e, subst (λ (g : Graph). ShowsReport g c o o') links shown, work)
+
+-- The graph has the episodes, and as many links were heard, as questions 1 to 10 and 18 count.
+pub read_graph : (m : Ceilings) (l : List ℕ) (n t : ℕ) → questions m l ≡ given (n, t)
+    → questions m l ≡ given ((graph_of l).n, heard_count l)
+read_graph m l n t e = rw (graph_episodes m l n t e, heard_count_words m l n t e) e
+
+-- A log that passes questions 1 to 10 and 18 passes 11 and 12 too where the buffers are long enough.
+pub read_passes : (m : Ceilings) (l : List ℕ) → questions m l ≡ given ((graph_of l).n, heard_count l) → (out work : ℕ)
     → LentEnough l out work → Passes m l out work
 read_passes m l e out work (enough, room) =
-    asked_passes m (λ n t. report_need n) l out work (graph_of l).n (length (graph_of l).links) e enough room
+    asked_passes m (λ n t. report_need n) l out work (graph_of l).n (heard_count l) e enough room
 
 -- The graph of an accepted log: its links join episodes, and it is acyclic.
 module _ (m : Ceilings) (l : List ℕ) (accepted : Accepted m l) where
   pub accepted_ends : EndsBelow (graph_of l)
-  accepted_ends = links_below m l (graph_of l).n (length (graph_of l).links) accepted.read
+  accepted_ends = links_below m l (graph_of l).n (heard_count l) accepted.read
 
   pub accepted_acyclic : Acyclic (graph_of l)
   accepted_acyclic = (acyclic_no_loop (graph_of l) accepted_ends).1 accepted.no_loop
@@ -176,7 +190,7 @@ module _ (m : Ceilings) (l : List ℕ) (accepted : Accepted m l) where
 -- questions that are answered yes found the buffers long enough
 pub passes_enough : (m : Ceilings) (l : List ℕ) (out work : ℕ) → Passes m l out work → LentEnough l out work
 passes_enough m l out work e =
-    let h = asked_given m (λ n t. report_need n) l out work (graph_of l).n (length (graph_of l).links) e in
+    let h = asked_given m (λ n t. report_need n) l out work (graph_of l).n (heard_count l) e in
     (h.1, h.2)
 
 -- the width of an acyclic graph, and a largest apart set of that size
@@ -193,7 +207,7 @@ module _ (m : Ceilings) (l o w o' w' : List ℕ) (c : ℕ) (d : ReportLeft m l o
   pub report_accepted : Accepted m l
   report_accepted =
       record {
-        read = (asked_given m (λ n t. report_need n) l (length o) (length w) (graph_of l).n (length (graph_of l).links) d.passes).0;
+        read = (asked_given m (λ n t. report_need n) l (length o) (length w) (graph_of l).n (heard_count l) d.passes).0;
         no_loop = λ k loop. loop_cyclic d.reported.acyclic loop;
       }
 
@@ -204,7 +218,7 @@ module _ (m : Ceilings) (l o w o' w' : List ℕ) (c : ℕ) (d : ReportLeft m l o
   -- word 0 is of kind 4 and its number is the width
   pub report_width : (kind (get_or (take c o') 0 0) ≡ 4) × Width (graph_of l) (number (get_or (take c o') 0 0))
   report_width =
-      let few : Small (graph_of l).n = number_lt (get_or l 0 0) in
+      let few : Small (graph_of l).n = omega arith in
       let small : Small (length (apart_of (take c o'))) = omega (arith, apart_few few d.reported) in
       let first : get_or (take c o') 0 0 ≡ word 4 (length (apart_of (take c o'))) =
       ap (λ (ws : List ℕ). get_or ws 0 0) d.words ∙ report_head (apart_of (take c o')) (threads_of (take c o')) in

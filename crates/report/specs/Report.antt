@@ -4,7 +4,7 @@ use mathlib.Core.List.{List, [], ◌++◌, Memᴰ as Mem}
 use Rattle.order.specs.Order.{All}
 use Rattle.paths.specs.Graph.{Graph, Acyclic, Cover, Smallest, Furthest, Rising, Loop}
 use Rattle.logs.specs.Answer.{Answer, given, refused, question}
-use Rattle.logs.specs.Log.{questions, graph_of}
+use Rattle.logs.specs.Log.{questions, graph_of, heard_count}
 use Rattle.logs.specs.declared.Ceilings.{Ceilings}
 use Rattle.writing.specs.Layout.{report_words, loop_words, report_need, BeginsWith}
 use Rattle.report.specs.declared.Outcome.{Outcome}
@@ -24,7 +24,7 @@ work_words = 16384
 abbrev pub lent : ℕ → ℕ → ℕ → Answer (ℕ × ℕ) → Answer (ℕ × ℕ)
 lent need out work next = question 11 need (leb need out) (question 12 work_words (leb work_words work) next)
 
--- Questions 1 to 12: `need` says how many output words the service needs for a log with n episodes and t to words.
+-- Questions 1 to 12 and 18: `need` says how many output words the service needs for a log with n episodes and t to words.
 unfoldable pub asked : Ceilings → (ℕ → ℕ → ℕ) → List ℕ → ℕ → ℕ → Answer (ℕ × ℕ)
 asked m need l out work = go (questions m l)
   where
@@ -56,9 +56,9 @@ pub record LoopShown (g : Graph) (c : List ℕ) : Type 0 where
   pub loop : Loop g c
   pub smallest_first : All (λ v. loop.first ≤ v) c
 
--- questions 1 to 12 of a report call are answered yes
+-- questions 1 to 12 and 18 of a report call are answered yes
 abbrev pub Passes : Ceilings → List ℕ → ℕ → ℕ → Type 0
-Passes m l out work = asked m (λ n t. report_need n) l out work ≡ given ((graph_of l).n, length (graph_of l).links)
+Passes m l out work = asked m (λ n t. report_need n) l out work ≡ given ((graph_of l).n, heard_count l)
 
 -- the output shows a loop of `c` episodes of `g`
 abbrev pub ShowsLoop : Graph → ℕ → List ℕ → List ℕ → Type 0

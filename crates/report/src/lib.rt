@@ -71,8 +71,8 @@ pub fn lent(need: usize, output: usize, work: usize) -> Result<(), Refusal>
     Ok(())
 }
 
-// Questions 1 to 12 of a call on a log, at a caller's ceilings, with so many words lent; the output needs the words that `need` gives for n and the
-// count of to words.
+// Questions 1 to 12 and 18 of a call on a log, at a caller's ceilings, with so many words lent; the output needs the words that `need` gives for n
+// and the count of to words.
 #[tactic(auto, using(crate::proofs::Asked::asked_read, crate::proofs::Asked::asked_denied, logs::proofs::Laws::few_episodes))]
 pub fn call_asked<F: FnOnce(usize, usize) -> usize>(
     most: Ceilings,
@@ -91,7 +91,7 @@ pub fn call_asked<F: FnOnce(usize, usize) -> usize>(
     Ok(log)
 }
 
-// Questions 1 to 12 of a report on a log, at a caller's ceilings.
+// Questions 1 to 12 and 18 of a report on a log, at a caller's ceilings.
 fn report_asked(
     most: Ceilings,
     words: &[u32],

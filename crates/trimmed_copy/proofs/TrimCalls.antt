@@ -8,15 +8,12 @@ use Rattle.paths.specs.Graph.{Graph}
 use Rattle.logs.specs.Answer.{given, refused, reason_number}
 use Rattle.logs.specs.Log.{questions, graph_of}
 use Rattle.std.specs.Prelude.{Result, Ok, Err}
-use Rattle.std.proofs.lemmas.Bool.Decides.{eqb_tells}
-use mathlib.Core.Bool.{false}
-use mathlib.Core.Logic.{⊎_elim}
-use lib.Dec.{eqb}
+use borrow.Author.Tests.{ne_eqb}
 use Rattle.logs.specs.declared.Ceilings.{Ceilings}
 use Rattle.logs.specs.declared.Refusal.{Refusal}
-use Rattle.report.proofs.Asked.{asked_most}
+use Rattle.report.proofs.Asked.{asked_other}
 use Rattle.copying.specs.FairCopy.{fair_need}
-use Rattle.copying.proofs.FairCopies.{log_fits}
+use Rattle.logs.proofs.Laws.{words_small, graph_links_few}
 use Rattle.writing.proofs.Layouts.{length_loop}
 use Rattle.trimming.specs.Trimming.{Held}
 use Rattle.trimming.proofs.TrimmedCopies.{trim_fits, trim_loop_fits}
@@ -44,7 +41,7 @@ held ready room =
 pub enough : (m : Ceilings) (l : List ℕ) (n t k : ℕ) → questions m l ≡ given (n, t) → fair_need t ≤ k → Room (graph_of l) k
 enough m l n t k e h =
     record {
-      small = (log_fits m l n t e).count;
+      small = omega (arith, graph_links_few m l n t e, words_small m l n t e);
       copy = omega (arith, trim_fits m l n t e);
       loop = λ c o. omega (arith, trim_loop_fits m l n t e c o, length_loop c);
     }
@@ -54,11 +51,7 @@ pub trim_refused : (m : Ceilings) (l o w : List ℕ) (r : Refusal) → copy_aske
     → TrimLeft m l o w o w (Err r)
 unfolding TrimLeft
 trim_refused m l o w r e =
-    let most = asked_most m (λ n t. fair_need t) l (length o) (length w) (reason_number r.reason) r.place e in
-    rw (not_loop (reason_number r.reason) most) (e, refl, refl)
-  where
-    not_loop : (q : ℕ) → q ≤ 12 → eqb q 13 ≡ false
-    not_loop q h = ⊎_elim (λ y. absurd (omega (arith, y.1))) (λ n. n.0) (eqb_tells q 13)
+    rw (ne_eqb (reason_number r.reason) 13 (asked_other m (λ n t. fair_need t) l (length o) (length w) (reason_number r.reason) r.place e)) (e, refl, refl)
 
 -- answered
 pub trim_left : (m : Ceilings) (l o w : List ℕ) (n t : ℕ) → copy_asked m l (length o) (length w) ≡ given (n, t) → (o' : List ℕ) {w' : List ℕ}

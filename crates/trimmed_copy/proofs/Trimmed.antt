@@ -4,11 +4,11 @@ use mathlib.Core.Bool.{true, false}
 use mathlib.Core.Logic.{◌⊎◌, inl, inr, ◌≢◌, ⊎_elim}
 use lib.Dec.{eqb}
 use mathlib.Core.List.{List, ◌++◌}
-use Prim.Native.Nat.{ℕ, ◌≤◌}
+use Prim.Native.Nat.{ℕ}
 use lib.ListN.{length, take, drop}
 use Rattle.paths.specs.Graph.{Acyclic, Loop}
 use Rattle.logs.specs.Answer.{given, refused, reason_number}
-use Rattle.logs.specs.Log.{questions, graph_of}
+use Rattle.logs.specs.Log.{questions, graph_of, heard_count}
 use Rattle.std.specs.Prelude.{Result, Ok, Err}
 use Rattle.std.proofs.lemmas.Bool.Decides.{eqb_tells}
 use Rattle.logs.specs.declared.Ceilings.{Ceilings}
@@ -17,7 +17,7 @@ use Rattle.writing.proofs.Buffers.{begins_words}
 use Rattle.copying.specs.FairCopy.{fair_need}
 use Rattle.trimming.specs.TrimmedCopy.{trimmed_words}
 use Rattle.report.specs.Report.{cleared, ShowsLoop}
-use Rattle.report.proofs.Asked.{asked_given, asked_most}
+use Rattle.report.proofs.Asked.{asked_given, asked_other}
 use Rattle.report.proofs.Outcomes as outcomes
 use Rattle.report.proofs.Outcomes.{Leaves, denied, looped, gave}
 use Rattle.report.proofs.Reported.{loop_cyclic}
@@ -27,7 +27,7 @@ use Rattle.trimmed_copy.specs.Trimmed.{trim_answer, TrimPasses, TrimLeft}
 -- What a call with the outcome of a trimmed copy leaves: `c` is the count of its words.
 pub record TrimGiven (m : Ceilings) (l o w o' w' : List ℕ) (c : ℕ) : Type 0 where
   pub passes : TrimPasses m l (length o) (length w)
-  pub read : questions m l ≡ given ((graph_of l).n, length (graph_of l).links)
+  pub read : questions m l ≡ given ((graph_of l).n, heard_count l)
   pub acyclic : Acyclic (graph_of l)
   pub words : take c o' ≡ trimmed_words (graph_of l)
   pub count : c ≡ length (trimmed_words (graph_of l))
@@ -36,8 +36,8 @@ pub record TrimGiven (m : Ceilings) (l o w o' w' : List ℕ) (c : ℕ) : Type 0 
 
 module _ (m : Ceilings) (l o w o' w' : List ℕ) where
   -- a log whose questions are answered yes passes the reading
-  passes_read : TrimPasses m l (length o) (length w) → questions m l ≡ given ((graph_of l).n, length (graph_of l).links)
-  passes_read passes = (asked_given m (λ n t. fair_need t) l (length o) (length w) (graph_of l).n (length (graph_of l).links) passes).0
+  passes_read : TrimPasses m l (length o) (length w) → questions m l ≡ given ((graph_of l).n, heard_count l)
+  passes_read passes = (asked_given m (λ n t. fair_need t) l (length o) (length w) (graph_of l).n (heard_count l) passes).0
 
   trimmed_left : (c : ℕ) → TrimLeft m l o w o' w' (Ok c) → TrimGiven m l o w o' w' c
   unfolding TrimLeft
@@ -54,14 +54,14 @@ module _ (m : Ceilings) (l o w o' w' : List ℕ) where
       }
 
   leaves : (r : Result ℕ Refusal) → TrimLeft m l o w o' w' r
-      → Leaves (copy_asked m l (length o) (length w)) ((graph_of l).n, length (graph_of l).links) (TrimGiven m l o w o' w')
+      → Leaves (copy_asked m l (length o) (length w)) ((graph_of l).n, heard_count l) (TrimGiven m l o w o' w')
       (λ k. ShowsLoop (graph_of l) k o o' × (w' ≡ cleared w)) ((o' ≡ o) × (w' ≡ w)) (trim_answer r)
   unfolding TrimLeft
   leaves (Ok c) left = gave c refl left.0 (trimmed_left c left)
   leaves (Err r) left = refusal (eqb_tells (reason_number r.reason) 13)
     where
       refusal : ((eqb (reason_number r.reason) 13 ≡ true) × (reason_number r.reason ≡ 13)) ⊎ ((eqb (reason_number r.reason) 13 ≡ false) × (reason_number r.reason ≢ 13))
-          → Leaves (copy_asked m l (length o) (length w)) ((graph_of l).n, length (graph_of l).links) (TrimGiven m l o w o' w')
+          → Leaves (copy_asked m l (length o) (length w)) ((graph_of l).n, heard_count l) (TrimGiven m l o w o' w')
           (λ k. ShowsLoop (graph_of l) k o o' × (w' ≡ cleared w)) ((o' ≡ o) × (w' ≡ w)) (refused (reason_number r.reason) r.place)
       refusal (inl (e, same)) = let shown = rw e at left in looped r.place (ap (λ q. refused q r.place) same) shown.0 (shown.1, shown.2)
       refusal (inr (e, other)) = let kept = rw e at left in denied (reason_number r.reason) r.place refl kept.0 (kept.1, kept.2)
@@ -77,7 +77,7 @@ module _ (m : Ceilings) (l o w o' w' : List ℕ) where
   pub refused_left : (r : Result ℕ Refusal) (k : ℕ) → TrimLeft m l o w o' w' r → trim_answer r ≡ refused 13 k
       → TrimPasses m l (length o) (length w) × ShowsLoop (graph_of l) k o o' × (w' ≡ cleared w)
   refused_left r k left e =
-      let (passes, shown) = outcomes.refused_loop (asked_most m (λ n t. fair_need t) l (length o) (length w)) (leaves r left) k e in
+      let (passes, shown) = outcomes.refused_loop (asked_other m (λ n t. fair_need t) l (length o) (length w)) (leaves r left) k e in
       (passes, shown.0, shown.1)
 
   -- a log without a loop, whose questions are answered yes, is copied
@@ -92,8 +92,8 @@ module _ (m : Ceilings) (l o w o' w' : List ℕ) where
   loop_refused r c passes loop left =
       ⊎_elim (λ (d, e, g). absurd (loop_cyclic g.acyclic loop)) (λ (k, e, d). (k, e)) (outcomes.asked_yes (leaves r left) passes)
 
-  -- a call refuses with 1 to 12 exactly when the questions do
-  pub refused_asked : (r : Result ℕ Refusal) (q p : ℕ) → q ≤ 12 → TrimLeft m l o w o' w' r → trim_answer r ≡ refused q p
+  -- a call refuses with any number but 13 exactly when the questions do
+  pub refused_asked : (r : Result ℕ Refusal) (q p : ℕ) → q ≢ 13 → TrimLeft m l o w o' w' r → trim_answer r ≡ refused q p
       → (copy_asked m l (length o) (length w) ≡ refused q p) × (o' ≡ o) × (w' ≡ w)
   refused_asked r q p h left e = let (asks, same) = outcomes.refused_asked (leaves r left) q p h e in (asks, same.0, same.1)
 

@@ -2,7 +2,7 @@
 use Rattle.std.specs.Prelude.{◌≡◌, Bool, true, false, Result, Ok, Err, List, ℕ, eqb, length}
 use Rattle.paths.specs.Graph.{Graph, Acyclic}
 use Rattle.logs.specs.Answer.{Answer, given, refused, reason_number, result_answer}
-use Rattle.logs.specs.Log.{graph_of}
+use Rattle.logs.specs.Log.{graph_of, heard_count}
 use Rattle.logs.specs.declared.Ceilings.{Ceilings}
 use Rattle.logs.specs.declared.Refusal.{Refusal}
 use Rattle.writing.specs.Layout.{BeginsWith}
@@ -14,9 +14,9 @@ use Rattle.fair_copy.specs.Copied.{copy_asked}
 abbrev pub trim_answer : Result ℕ Refusal → Answer ℕ
 trim_answer = result_answer (λ c. c)
 
--- questions 1 to 12, which are those of a fair copy call, are answered yes
+-- questions 1 to 12 and 18, which are those of a fair copy call, are answered yes
 abbrev pub TrimPasses : Ceilings → List ℕ → ℕ → ℕ → Type 0
-TrimPasses m l out work = copy_asked m l out work ≡ given ((graph_of l).n, length (graph_of l).links)
+TrimPasses m l out work = copy_asked m l out work ≡ given ((graph_of l).n, heard_count l)
 
 -- `g` has no loop, and the output begins with its trimmed copy, in `c` words
 abbrev pub ShowsTrimmed : Graph → ℕ → List ℕ → List ℕ → Type 0

@@ -1,6 +1,6 @@
--- The theorems of the trimmed copy: of a log that passes questions 1 to 10 it passes them too, and it has exactly the links that stay; of a
+-- The theorems of the trimmed copy: of a log that passes questions 1 to 10 and 18 it passes them too, and it has exactly the links that stay; of a
 -- loop-free log it has the same ways, and two such logs have the same trimmed copy exactly when they have the same ways.
-use mathlib.Core.Path.{◌≡◌, ap, sym, ◌∙◌}
+use mathlib.Core.Path.{◌≡◌, ap, sym, subst, ◌∙◌}
 use mathlib.Core.Logic.Iff
 use mathlib.Core.Logic.{◌↔◌}
 use mathlib.Core.List.{List, Nodup, IsChain}
@@ -12,36 +12,40 @@ use Rattle.paths.specs.Trimmed.{SameWays, Trimmed}
 use Rattle.paths.proofs.Same.{ways_sym, ways_trans, links_ways}
 use Rattle.paths.proofs.Trimming.{trimmed_ends}
 use Rattle.paths.proofs.Theorems.{trimmed_ways, ways_trimmed, loop_few}
-use Rattle.logs.specs.Content.{HeardOf}
+use Rattle.logs.specs.Content.{HeardOf, heard_graph}
 use Rattle.logs.specs.Answer.{given}
 use Rattle.logs.specs.Log.{questions, content_of, graph_of}
 use Rattle.logs.specs.declared.Ceilings.{Ceilings}
-use Rattle.logs.proofs.Laws.{few_episodes, few_words, graph_episodes, graph_count, links_below}
+use Rattle.logs.proofs.Counts.{counted_heard, old_graph}
+use Rattle.logs.proofs.Laws.{few_episodes, few_words, words_small, graph_episodes, graph_links_few, links_below}
 use Rattle.writing.specs.Layout.{loop_words}
 use Rattle.writing.proofs.Layouts.{length_loop}
 use Rattle.copying.specs.FairCopy.{group_links, fair_words, Precedes, fair_need}
 use Rattle.copying.proofs.GroupLinks.{length_group_links, copy_words_fit}
-use Rattle.copying.proofs.ReadBack.{Fits, copy_passes}
+use Rattle.copying.proofs.ReadBack.{Fits, copy_version, copy_passes}
 use Rattle.copying.proofs.FairCopies.{log_fits, same_copy, copy_same_links, copy_nodup, copy_rising, copy_pause, fair_again, copy_same, copy_read}
 use Rattle.trimming.specs.TrimmedCopy.{trimmed, no_pause, trimmed_words}
 use Rattle.trimming.proofs.Kept.{trimmed_is, trimmed_few}
 
 -- graphs with the same ways have the same trimmed copy
 ways_copy : (g h : Graph) → EndsBelow g → EndsBelow h → SameWays g h → trimmed_words g ≡ trimmed_words h
-ways_copy g h ge he s = same_copy no_pause (trimmed g) (trimmed h) (ways_trimmed ge he s (trimmed_is g) (trimmed_is h))
+ways_copy g h ge he s = same_copy 0 no_pause (trimmed g) (trimmed h) (ways_trimmed ge he s (trimmed_is g) (trimmed_is h))
 
 -- the trimmed copy of a log `l` that passes with `n` episodes and `t` to words
 module _ (m : Ceilings) (l : List ℕ) (n t : ℕ) (e : questions m l ≡ given (n, t)) where
   ends : EndsBelow (graph_of l)
   ends = links_below m l n t e
 
-  fits : Fits no_pause (trimmed (graph_of l))
+  fits : Fits 0 no_pause (trimmed (graph_of l))
   fits =
       let log = log_fits m l n t e in
       record {
+        known = omega arith;
         few = omega (arith, log.few, (trimmed_is (graph_of l)).episodes);
-        count = omega (arith, log.count, trimmed_few (graph_of l));
-        links = λ a b k. ((log.links a b (((trimmed_is (graph_of l)).links a b).0 k).link).0, omega arith);
+        count = omega (arith, words_small m l n t e, graph_links_few m l n t e, trimmed_few (graph_of l));
+        links = λ a b k.
+            let heard = counted_heard (content_of l) a b (((trimmed_is (graph_of l)).links a b).0 k).link in
+            ((log.links a b heard).0, omega arith);
       }
 
   episodes : (trimmed (graph_of l)).n ≡ n
@@ -51,13 +55,20 @@ module _ (m : Ceilings) (l : List ℕ) (n t : ℕ) (e : questions m l ≡ given 
   pub trim_read : questions m (trimmed_words (graph_of l)) ≡ given (n, length (group_links (trimmed (graph_of l)) n))
   trim_read =
       let less = length_group_links (trimmed (graph_of l)) (trimmed (graph_of l)).n in
-      copy_passes m no_pause (trimmed (graph_of l)) fits (omega (arith, episodes, few_episodes m l n t e))
-      (omega (arith, trimmed_few (graph_of l), graph_count m l n t e, few_words m l n t e))
+      copy_passes m 0 no_pause (trimmed (graph_of l)) fits (omega (arith, episodes, few_episodes m l n t e))
+      (omega (arith, trimmed_few (graph_of l), graph_links_few m l n t e, few_words m l n t e))
       ∙ ap (λ (k : ℕ). given (k, length (group_links (trimmed (graph_of l)) k))) episodes
+
+  -- it is of version 0, so all its links count
+  pub trim_version : (content_of (trimmed_words (graph_of l))).version ≡ 0
+  trim_version = copy_version 0 no_pause (trimmed (graph_of l)) fits
+
+  all : graph_of (trimmed_words (graph_of l)) ≡ heard_graph (content_of (trimmed_words (graph_of l)))
+  all = old_graph (content_of (trimmed_words (graph_of l))) trim_version
 
   -- it has the links that stay, and no others
   same : SameLinks (trimmed (graph_of l)) (graph_of (trimmed_words (graph_of l)))
-  same = copy_same_links no_pause (trimmed (graph_of l)) fits (trimmed_ends (trimmed_is (graph_of l)) ends)
+  same = rw all (copy_same_links 0 no_pause (trimmed (graph_of l)) fits (trimmed_ends (trimmed_is (graph_of l)) ends))
 
   pub trim_is : Trimmed (graph_of l) (graph_of (trimmed_words (graph_of l)))
   trim_is =
@@ -68,19 +79,19 @@ module _ (m : Ceilings) (l : List ℕ) (n t : ℕ) (e : questions m l ≡ given 
 
   -- none of them twice
   pub trim_once : Nodup (graph_of (trimmed_words (graph_of l))).links
-  trim_once = copy_nodup no_pause (trimmed (graph_of l)) fits
+  trim_once = subst (λ (g : Graph). Nodup g.links) (sym all) (copy_nodup 0 no_pause (trimmed (graph_of l)) fits)
 
   -- they rise, by the earlier episode and then by the later one
   pub trim_rising : IsChain Precedes (graph_of (trimmed_words (graph_of l))).links
-  trim_rising = copy_rising no_pause (trimmed (graph_of l)) fits
+  trim_rising = subst (λ (g : Graph). IsChain Precedes g.links) (sym all) (copy_rising 0 no_pause (trimmed (graph_of l)) fits)
 
   -- each with pause 0
   pub trim_pause : (a b p : ℕ) → HeardOf (content_of (trimmed_words (graph_of l))) a b p → p ≡ 0
-  trim_pause = copy_pause no_pause (trimmed (graph_of l)) fits
+  trim_pause = copy_pause 0 no_pause (trimmed (graph_of l)) fits
 
   -- its own fair copy is the same words, and the trimmed copy of the fair copy too
   pub trim_fair : fair_words (content_of (trimmed_words (graph_of l))) ≡ trimmed_words (graph_of l)
-  trim_fair = fair_again no_pause (trimmed (graph_of l)) fits
+  trim_fair = fair_again 0 no_pause (trimmed (graph_of l)) fits
 
   pub fair_trim : trimmed_words (graph_of (fair_words (content_of l))) ≡ trimmed_words (graph_of l)
   fair_trim =
@@ -89,10 +100,10 @@ module _ (m : Ceilings) (l : List ℕ) (n t : ℕ) (e : questions m l ≡ given 
 
   -- it needs no more than `fair_need t` words, and neither does a loop
   pub trim_fits : length (trimmed_words (graph_of l)) ≤ fair_need t
-  trim_fits = omega (arith, copy_words_fit (trimmed (graph_of l)) no_pause, trimmed_few (graph_of l), graph_count m l n t e)
+  trim_fits = omega (arith, copy_words_fit (trimmed (graph_of l)) 0 no_pause, trimmed_few (graph_of l), graph_links_few m l n t e)
 
   pub trim_loop_fits : (c : List ℕ) → Loop (graph_of l) c → length (loop_words c) ≤ fair_need t
-  trim_loop_fits c o = omega (arith, length_loop c, loop_few o, graph_count m l n t e)
+  trim_loop_fits c o = omega (arith, length_loop c, loop_few o, graph_links_few m l n t e)
 
   -- of a loop-free log it has the same ways, so its own trimmed copy is the same words
   module _ (acyclic : Acyclic (graph_of l)) where

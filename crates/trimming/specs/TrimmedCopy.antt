@@ -1,4 +1,4 @@
--- The trimmed copy of a log: the links that stay, each once, in order, without pauses.
+-- The trimmed copy of a log: the links that stay, each once, in order, without pauses, in version 0.
 use mathlib.Core.List.{List, filter}
 use Rattle.std.specs.Prelude.{ℕ}
 use Rattle.paths.specs.Graph.{Graph}
@@ -13,6 +13,6 @@ trimmed g = record { n = g.n; links = filter (λ (l : ℕ × ℕ). stays_decidab
 abbrev pub no_pause : ℕ → ℕ → ℕ
 no_pause a b = 0
 
--- the trimmed copy: the links that stay, in the layout of the fair copy, with pause 0
+-- the trimmed copy: the links that stay, in the layout of the fair copy, in version 0 and with pause 0
 abbrev pub trimmed_words : Graph → List ℕ
-trimmed_words g = copy_words no_pause (trimmed g)
+trimmed_words g = copy_words 0 no_pause (trimmed g)

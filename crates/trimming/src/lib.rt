@@ -15,7 +15,7 @@ ghost use Rattle.trimming.specs.TrimmedCopy.{trimmed, no_pause, trimmed_words};
 ghost use Rattle.trimming.specs.Trimming.{Held, WaysAdded, HoldsImplied, kept_to, to_unpaused, TellsDigits};
 
 use bits::{LINKS, WAYS};
-use logs::Kind;
+use logs::{Head, Kind};
 
 // Joins into `implied` the ways of the episodes that are the bits of `links`, counted from `first` on.
 fn join_ways(w: &[u32], links: u32, first: usize, implied: &mut [u32; 8])
@@ -80,11 +80,15 @@ fn trim_row(w: &[u32], n: usize, a: usize, out: &mut [u32]) -> usize
     write_row(w, row, &implied, out)
 }
 
-// Writes the trimmed copy of a graph with `n` episodes, from its links and ways, and gives its count of words.
+// Writes the trimmed copy, of version 0, of a graph with `n` episodes, from its links and ways, and gives its count of words.
 pub fn write_trimmed(w: &[u32], n: usize, out: &mut [u32]) -> usize
     requires { (g : Graph) × Held g n w.now × (length (trimmed_words g) ≤ length out.old) }
     ensures { (g : Graph) → Held g n w.now → length (trimmed_words g) ≤ length out.old
         → (result ≡ length (trimmed_words g)) × BeginsWith (trimmed_words g) out.old out.new }
 {
-    copying::write_by_rows(n, out, |a, rest| trim_row(w, n, a, rest))
+    let head = Head {
+        version: 0,
+        episodes: n,
+    };
+    copying::write_by_rows(head, out, |a, rest| trim_row(w, n, a, rest))
 }

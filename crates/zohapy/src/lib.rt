@@ -118,7 +118,7 @@ impl From<Result<Stretch, Refusal>> for ThreadAnswer {
     }
 }
 
-// Questions 1 to 10.
+// Questions 1 to 10 and 18.
 #[unsafe(no_mangle)]
 pub extern "C" fn zohapy_read(log: &[u32]) -> ReadAnswer
     ensures { read_numbers (questions service log.now) ≡ (result.number, result.place, result.episodes, result.links) }
@@ -126,7 +126,7 @@ pub extern "C" fn zohapy_read(log: &[u32]) -> ReadAnswer
     ReadAnswer::from(logs::read(log))
 }
 
-// The number of different links of a log.
+// The number of different links of a log that count.
 #[unsafe(no_mangle)]
 pub extern "C" fn zohapy_links(log: &[u32]) -> Answer
     ensures { numbers (count_asked service log.now) ≡ (result.number, result.value) }

@@ -1,6 +1,7 @@
-//! The graph of a log that passes: its links, and the ways that a search depth first finds. It has no pauses.
+//! The graph of a log that passes: the links that count, and the ways that a search depth first finds. It has no pauses.
 
-use crate::words::{FROM, Link, Noted, TO, episode, kind, number, pause};
+use super::joining;
+use crate::words::{FROM, Link, Noted, TO, episode, episodes, kind, number, pause, version};
 
 pub struct Graph {
     pub n: usize,
@@ -10,7 +11,7 @@ pub struct Graph {
     pub next: Vec<Vec<usize>>,
 }
 
-/// The links of a log that passes questions 1 to 10, as it gives them: with their pauses and repeats, in its order.
+/// The links of a log that passes questions 1 to 10 and 18, as it gives them: with their pauses and repeats, in its order.
 pub fn noted(log: &[u32]) -> Vec<Noted> {
     let mut links = Vec::new();
     let mut from = 0;
@@ -35,9 +36,14 @@ impl Graph {
         Graph { n, links, next }
     }
 
-    /// The graph of a log that passes questions 1 to 10.
+    /// The graph of a log that passes questions 1 to 10 and 18: it has the links that count.
     pub fn of(log: &[u32]) -> Graph {
-        Graph::new(number(log[0]), noted(log).iter().map(|&(from, to, _)| (from, to)).collect())
+        Graph::new(episodes(log[0]), joining::by_words(version(log[0]), &noted(log)))
+    }
+
+    /// The same with every link that was heard.
+    pub fn of_all(log: &[u32]) -> Graph {
+        Graph::new(episodes(log[0]), noted(log).iter().map(|&(from, to, _)| (from, to)).collect())
     }
 
     pub fn linked(&self, from: usize, to: usize) -> bool {

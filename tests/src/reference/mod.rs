@@ -1,10 +1,11 @@
-//! The answers that are expected, worked out anew: the questions, the graph of a log, its link count, its width, its
-//! furthest apart set and its copies.
+//! The answers that are expected, worked out anew: the questions, the links of a log that count, its graph, its link count,
+//! its width, its furthest apart set and its copies.
 
 mod copies;
 mod counting;
 mod furthest;
 mod graph;
+mod joining;
 mod questions;
 mod subject;
 mod trimming;

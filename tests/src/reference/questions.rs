@@ -1,6 +1,7 @@
 //! The questions put to a log, to the lent buffers, to a report's words and to the program's bytes.
 
-use crate::words::{APART, END, FROM, HEAD, LARGEST, STEP, THREAD, TO, WIDTH, episode, kind, number, word};
+use crate::words::{APART, END, FROM, HEAD, LARGEST, STEP, THREAD, TO, WIDTH};
+use crate::words::{episode, episodes, kind, number, version, word};
 
 /// A refusal: its number and its place.
 #[derive(Clone, Copy, Debug, PartialEq, Eq)]
@@ -12,6 +13,7 @@ pub struct Refusal {
 /// The work words that a report or a copy needs.
 pub const WORK: usize = 16_384;
 
+const LAST_VERSION: usize = 1;
 const MOST_EPISODES: usize = 200;
 const MOST_LINKS: usize = 4_096;
 const MOST_BYTES: usize = 32_776;
@@ -20,7 +22,7 @@ fn no<T>(number: u32, place: usize) -> Result<T, Refusal> {
     Err(Refusal { number, place })
 }
 
-/// Questions 1 to 10: n and the count of to words, or the refusal.
+/// Questions 1 to 10, with 18 between 2 and 3: n and the count of to words, or the refusal.
 pub fn in_order(log: &[u32]) -> Result<(usize, usize), Refusal> {
     if log.len() < 2 {
         return no(1, 0);
@@ -28,7 +30,10 @@ pub fn in_order(log: &[u32]) -> Result<(usize, usize), Refusal> {
     if kind(log[0]) != HEAD {
         return no(2, 0);
     }
-    let n = number(log[0]);
+    if version(log[0]) > LAST_VERSION {
+        return no(18, 0);
+    }
+    let n = episodes(log[0]);
     if n > MOST_EPISODES {
         return no(3, 0);
     }

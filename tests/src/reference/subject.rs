@@ -3,10 +3,11 @@
 use super::copies::{by_pairs, by_sorting, copy_words};
 use super::counting::{by_all_pairs, by_set};
 use super::furthest::{FEW, FEWER, by_flow, by_subsets, cover_by_unions, is_furthest};
-use super::trimming::{by_search, by_threads};
+use super::joining::by_least;
+use super::trimming::{by_search, by_threads, joined_without};
 use super::{Graph, Refusal, in_order, noted};
-use crate::counts::{Links, Pauses};
-use crate::words::{Noted, older};
+use crate::counts::{Links, LongPauses, Pauses};
+use crate::words::{Noted, older, version};
 use std::cell::OnceCell;
 
 pub struct Subject {
@@ -18,6 +19,7 @@ pub struct Subject {
 
 /// The links and the graph of a log that passes. What calls on it have to show is worked out when it is first asked for.
 pub struct Passed {
+    version: usize,
     noted: Vec<Noted>,
     pub graph: Graph,
     has_loop: OnceCell<bool>,
@@ -27,14 +29,16 @@ pub struct Passed {
     count: OnceCell<usize>,
     pauses: OnceCell<Vec<Pauses>>,
     met: OnceCell<Vec<Links>>,
+    long_pauses: OnceCell<LongPauses>,
 }
 
 impl Subject {
     pub fn new(words: Vec<u32>) -> Subject {
         let reading = in_order(&words);
         let passed = reading.ok().map(|_| Passed {
+            version: version(words[0]),
             noted: noted(&words),
-            graph: Graph::of(&words),
+            graph: graph(&words),
             has_loop: OnceCell::new(),
             furthest: OnceCell::new(),
             fair: OnceCell::new(),
@@ -42,6 +46,7 @@ impl Subject {
             count: OnceCell::new(),
             pauses: OnceCell::new(),
             met: OnceCell::new(),
+            long_pauses: OnceCell::new(),
         });
         Subject { words, reading, passed }
     }
@@ -59,12 +64,12 @@ impl Passed {
 
     /// The link count.
     pub fn link_count(&self) -> usize {
-        *self.count.get_or_init(|| link_count(self.graph.n, &self.noted))
+        *self.count.get_or_init(|| link_count(self.version, self.graph.n, &self.noted))
     }
 
     /// The fair copy.
     pub fn fair_copy(&self) -> &[u32] {
-        self.fair.get_or_init(|| fair_copy(self.graph.n, &self.noted))
+        self.fair.get_or_init(|| fair_copy(self.version, self.graph.n, &self.noted))
     }
 
     /// The kinds of pauses that the log has, for the counts.
@@ -74,7 +79,20 @@ impl Passed {
 
     /// The kinds of links that the log, which has these words, has, for the counts.
     pub fn links(&self, words: &[u32]) -> &[Links] {
-        self.met.get_or_init(|| Links::met(words, self.has_loop()))
+        self.met.get_or_init(|| Links::met(words, &self.graph, self.has_loop()))
+    }
+
+    /// The least pauses of the log, which has these words, and what its long pauses do, for the counts.
+    pub fn long_pauses(&self, words: &[u32]) -> &LongPauses {
+        self.long_pauses.get_or_init(|| {
+            let all = Graph::of_all(words);
+            // Of larger logs this is not sought: it takes too long.
+            let round = || {
+                let stay = self.trimmed_copy().filter(|_| all.n <= 60).map_or(Vec::new(), |copy| Graph::of(copy).links);
+                stay.into_iter().any(|link| joined_without(&all, link))
+            };
+            LongPauses::of(self.version, all.n, &self.noted, (all.has_loop(), self.has_loop()), round)
+        })
     }
 
     /// The trimmed copy; none where there is a loop.
@@ -83,7 +101,17 @@ impl Passed {
     }
 }
 
-/// The furthest apart set. Where more than one road can be gone, all must lead to the same answer.
+/// The graph of a log that passes. Where more than one road can be gone, all must lead to the same answer.
+fn graph(words: &[u32]) -> Graph {
+    let graph = Graph::of(words);
+    if graph.n <= FEW {
+        let links = by_least(version(words[0]), graph.n, &noted(words));
+        assert_eq!(graph.links, links, "the reference: words and least pauses differ");
+    }
+    graph
+}
+
+/// The furthest apart set.
 fn furthest(graph: &Graph) -> Vec<usize> {
     let furthest = by_flow(graph);
     if graph.n <= FEW {
@@ -98,28 +126,28 @@ fn furthest(graph: &Graph) -> Vec<usize> {
 }
 
 /// The link count.
-fn link_count(n: usize, noted: &[Noted]) -> usize {
-    let count = by_set(noted);
+fn link_count(version: usize, n: usize, noted: &[Noted]) -> usize {
+    let count = by_set(version, noted);
     if n <= FEW {
-        assert_eq!(count, by_all_pairs(n, noted), "the reference: set and pairs differ");
+        assert_eq!(count, by_all_pairs(version, n, noted), "the reference: set and pairs differ");
     }
     count
 }
 
-/// The fair copy: each link with its least pause.
-fn fair_copy(n: usize, noted: &[Noted]) -> Vec<u32> {
+/// The fair copy: its version, and each link that was heard with its least pause.
+fn fair_copy(version: usize, n: usize, noted: &[Noted]) -> Vec<u32> {
     let links = by_sorting(noted);
     if n <= FEW {
         assert_eq!(links, by_pairs(n, noted), "the reference: sorting and pairs differ");
     }
-    copy_words(n, &links)
+    copy_words(version, n, &links)
 }
 
-/// The trimmed copy: the links that stay, without a pause.
+/// The trimmed copy: the links that stay, without a pause, in version 0.
 fn trimmed_copy(graph: &Graph) -> Vec<u32> {
     let stay = by_search(graph);
     if graph.n <= FEW {
         assert_eq!(stay, by_threads(graph), "the reference: search and threads differ");
     }
-    copy_words(graph.n, &older(&stay))
+    copy_words(0, graph.n, &older(&stay))
 }

@@ -12,7 +12,7 @@ pub fn by_search(graph: &Graph) -> Vec<Link> {
 
 /// Whether other links lead from the first episode of `out` to its second. The graph has each link once, so `out` is
 /// taken out with all its repeats.
-fn joined_without(graph: &Graph, out: Link) -> bool {
+pub fn joined_without(graph: &Graph, out: Link) -> bool {
     let mut seen = vec![false; graph.n];
     let mut stack = vec![out.0];
     while let Some(at) = stack.pop() {

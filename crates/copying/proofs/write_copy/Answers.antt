@@ -1,32 +1,38 @@
--- `copying::write_copy` meets its contract: its calls write the links of the log's graph.
+-- `copying::write_copy` meets its contract: its calls write the links that were heard.
 -- Assumes nothing.
 use native.Mathlib.Omega.{arith}
 use Rattle.std.proofs.Common.{rules}
-use Rattle.logs.specs.Content.{least_pause}
-use Rattle.logs.specs.Log.{content_of, graph_of}
+use Rattle.logs.specs.Content.{heard_graph, least_pause}
+use Rattle.logs.specs.Log.{content_of}
 use Rattle.logs.proofs.Laws.{graph_episodes}
 use Rattle.logs.proofs.WellFormed.{passes_passed}
-use Rattle.copying.proofs.Copies.{episodes_few, links_small}
+use Rattle.copying.proofs.Copies.{version_small, episodes_few, links_small, room_any_version}
 use Rattle.copying.proofs.Calls.{fair_links}
 use Rattle.copying.proofs.write_copy.Goals as goal
 
 pub write_by_rows-requires : goal.write_by_rows-requires
 write_by_rows-requires c =
     let l = c.args.log in
-    let count = graph_episodes _ l.words.now l.episodes l.to_words l.passes in (
-      least_pause (content_of l.words.now),
-      graph_of l.words.now,
+    let t = content_of l.words.now in
+    let count = graph_episodes _ l.words.now l.episodes l.to_words l.passes in
+    let room = room_any_version t.version (least_pause t) (heard_graph t) c.args.out.now c.requires.1 in (
+      least_pause t,
+      heard_graph t,
       fair_links _ _ (λ a f o asked. search rules) (λ a r f f' o o' called. search rules) _ c.requires.0,
       count,
+      rw c.version.ensures (version_small l.words.now),
       omega (arith, count, episodes_few l.words.now),
       links_small l.words.now (passes_passed l.words.now l.episodes l.to_words c.requires.0 l.passes),
-      c.requires.1,
+      room,
     )
 
 pub returns : goal.returns
 returns c =
     let l = c.args.log in
+    let t = content_of l.words.now in
     let count = graph_episodes _ l.words.now l.episodes l.to_words l.passes in
-    c.write_by_rows.ensures (least_pause (content_of l.words.now)) (graph_of l.words.now)
+    let room = room_any_version t.version (least_pause t) (heard_graph t) c.args.out.now c.requires.1 in
+    rw c.version.ensures at
+    (c.write_by_rows.ensures (least_pause t) (heard_graph t)
     (fair_links _ _ (λ a f o asked. search rules) (λ a r f f' o o' called. search rules) _ c.requires.0)
-    count c.requires.1
+    count room)

@@ -1,5 +1,6 @@
-use mathlib.Core.Path.{subst, ap, ◌∙◌}
+use mathlib.Core.Path.{subst, ap, sym, ◌∙◌}
 use native.Mathlib.Omega.{arith}
+use Rattle.logs.specs.Log.{content_of}
 use Rattle.logs.specs.declared.passed.Log.{Log}
 use Rattle.logs.specs.declared.passed.Groups.{Groups}
 use Rattle.logs.proofs.Passing.{from_below, to_below}
@@ -29,7 +30,13 @@ mark_group-requires c =
 pub loop-group-preserved : goal.loop-group-preserved
 loop-group-preserved c =
     let d = c.in-Some.ensures.steps in
-    (tt, tt, d.same ∙ c.loop-group.invariant.2, marking_on c.loop-group.invariant.3 d c.mark_group.ensures)
+    let same = c.loop-group.invariant.2 in
+    let version = ap (λ (l : Log). (content_of l.words.now).version) (sym same) in (
+      tt,
+      tt,
+      d.same ∙ same,
+      marking_on c.loop-group.invariant.3 d (rw (c.version-version.ensures ∙ version) at c.mark_group.ensures),
+    )
 
 pub returns : goal.returns
 returns c =

@@ -1,4 +1,5 @@
--- `reach::mark_links` meets its contract. The invariant: the links of the words before the next group are marked.
+-- `reach::mark_links` meets its contract. The invariant: the links of the words before the next group that count by their own
+-- pause are marked.
 -- Assumes nothing.
 use mathlib.Core.Path.{◌≡◌}
 use Rattle.reach.proofs.Marks.{Marking}

@@ -1,4 +1,4 @@
--- `report::call_asked` meets its contract: questions 1 to 10 are the reading's, 11 and 12 those of the lent buffers. Assumes nothing.
+-- `report::call_asked` meets its contract: questions 1 to 10 and 18 are the reading's, 11 and 12 those of the lent buffers. Assumes nothing.
 use mathlib.Core.Path.{◌≡◌, sym, ◌∙◌}
 use Rattle.std.proofs.lemmas.Result.{err_from_is_err_and}
 use Rattle.report.proofs.Asked.{asked_read}

@@ -2,6 +2,7 @@
 -- Assumes nothing.
 use native.Mathlib.Omega.{arith}
 use Rattle.std.proofs.Common.{rules}
+use Rattle.copying.proofs.Copies.{room_any_version}
 use Rattle.trimming.specs.TrimmedCopy.{trimmed, no_pause}
 use Rattle.trimming.proofs.Kept.{trimmed_few}
 use Rattle.trimming.proofs.Calls.{count_kept, trimmed_links}
@@ -14,9 +15,10 @@ write_by_rows-requires c =
       trimmed g,
       trimmed_links _ _ (λ a f o asked. search rules) (λ a r f f' o o' called. search rules) _ g held,
       count_kept held,
+      omega arith,
       omega (arith, held.few),
       omega (arith, trimmed_few g, held.small),
-      fits,
+      room_any_version 0 no_pause (trimmed g) c.args.out.now fits,
     )
 
 pub returns : goal.returns
@@ -24,4 +26,4 @@ returns c =
     λ g held fits.
     c.write_by_rows.ensures no_pause (trimmed g)
     (trimmed_links _ _ (λ a f o asked. search rules) (λ a r f f' o o' called. search rules) _ g held)
-    (count_kept held) fits
+    (count_kept held) (room_any_version 0 no_pause (trimmed g) c.args.out.now fits)

@@ -12,7 +12,7 @@ use Rattle.logs.proofs.Questions.first_stop.Goals as goal
 use Rattle.logs.proofs.Questions.first_stop.Goals.{then-at-last, else-at-last+in_default, else-at-last+in_default-2, else-at-last+in-Ok-From+in_default-to_word}
 
 pub log-init : goal.log-init
-log-init g c = heard_none (g.H.Hear.heard c.args.hearer.now) _ _ _ c.requires.0 c.requires.3
+log-init g c = heard_none (g.H.Hear.heard c.args.hearer.now) _ _ _ c.requires.0 c.requires.4
 
 pub row-row-requires : goal.row-row-requires
 row-row-requires g c =
@@ -20,7 +20,7 @@ row-row-requires g c =
     let episode = from_episode _ _ _ at.at (at.at - at.others) at.invariant.group (omega (arith, at.invariant.group.within)) _ c.group_word.ensures _ c.in-Ok-From.is in
     let told = from_told _ _ _ at.at (at.at - at.others) at.invariant.group (omega (arith, at.invariant.group.within)) _ c.group_word.ensures _ c.in-Ok-From.is in
     let same : c.in-Ok-From.from ≡ number (get_or c.args.self.log.now at.at 0) = from_number (sym c.in-Ok-From.field-0-is ∙ told) in
-    (c.args.self.most.episodes, c.requires.2, omega (arith, episode.1, c.requires.1, same))
+    (c.args.self.most.episodes, c.requires.3, omega (arith, episode.1, c.requires.2, same))
 
 pub loop-to-init : goal.loop-to-init
 loop-to-init g c =
@@ -32,22 +32,22 @@ loop-to-init g c =
       omega arith,
     )
 
-pub hear-requires : goal.hear-requires
-hear-requires g c =
+pub tell-requires : goal.tell-requires
+tell-requires g c =
     let at = c.loop-to in
-    next_link _ g.H.Hear.takes g.H.Hear.row_of _ _ _ at.at (c.log.others + 1) _ at.invariant.0 c.requires.2 c.requires.1 _ c.to_word.ensures _ c.in-Ok.is (omega arith)
+    next_link _ g.H.Hear.takes g.H.Hear.row_of _ _ _ at.at (c.log.others + 1) _ at.invariant.0 c.requires.3 c.requires.2 _ c.to_word.ensures _ c.in-Ok.is (omega arith)
 
 pub log-preserved : goal.log-preserved
 log-preserved g c =
     let at = c.loop-to in
-    heard_behind _ g.H.Hear.takes g.H.Hear.row_of _ _ _ at.at (c.log.others + 1) _ at.invariant.0 c.requires.2 c.requires.1 _ c.to_word.ensures _ c.in-Ok.is
-    (g.H.Hear.heard c.hear.new.self) c.hear.ensures (omega arith) (cc (c.to_before_last.ensures, c.if-not-to_before_last.true))
+    heard_behind _ g.H.Hear.takes g.H.Hear.row_of _ _ _ at.at (c.log.others + 1) _ at.invariant.0 c.requires.3 c.requires.2 _ c.to_word.ensures _ c.in-Ok.is
+    (g.H.Hear.heard c.tell.new.hearer) _ c.requires.1 c.tell.ensures (omega arith) (cc (c.to_before_last.ensures, c.if-not-to_before_last.true))
 
 pub loop-to-preserved : goal.loop-to-preserved
 loop-to-preserved g c =
     let at = c.loop-to in (
-      heard_on _ g.H.Hear.takes g.H.Hear.row_of _ _ _ at.at (c.log.others + 1) _ at.invariant.0 c.requires.2 c.requires.1 _ c.to_word.ensures _ c.in-Ok.is
-          (g.H.Hear.heard c.hear.new.self) c.hear.ensures (omega arith) (cc (c.to_before_last.ensures, c.if-not-to_before_last.false)),
+      heard_on _ g.H.Hear.takes g.H.Hear.row_of _ _ _ at.at (c.log.others + 1) _ at.invariant.0 c.requires.3 c.requires.2 _ c.to_word.ensures _ c.in-Ok.is
+          (g.H.Hear.heard c.tell.new.hearer) _ c.requires.1 c.tell.ensures (omega arith) (cc (c.to_before_last.ensures, c.if-not-to_before_last.false)),
       omega arith,
     )
 

@@ -1,6 +1,7 @@
 -- `logs::Questions::first_stop` meets its contract. The invariant of the outer loop: a group begins here, or the last word stands here; of the inner
 -- loop: the words of a group were passed over up to here, where a to word stands. Either way what is left to ask here is what is left to ask of
--- the whole, all words before here but `others` are to words, and their links were heard. The measure of both is what is left of the log.
+-- the whole, all words before here but `others` are to words, and of their links those that their pauses let count were heard. The measure of both
+-- is what is left of the log.
 -- Assumes nothing.
 use Prim.Native.Nat.{◌-◌, ◌≤◌}
 use lib.ListN.{length}

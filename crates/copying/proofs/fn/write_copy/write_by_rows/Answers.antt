@@ -1,7 +1,7 @@
 -- The links of an episode in a fair copy meet their contract: what is marked in the row of `a` is what `a` is linked to. Assumes nothing.
 use native.Mathlib.Omega.{arith}
-use Rattle.logs.specs.Content.{least_pause}
-use Rattle.logs.specs.Log.{content_of, graph_of}
+use Rattle.logs.specs.Content.{heard_graph, least_pause}
+use Rattle.logs.specs.Log.{content_of}
 use Rattle.logs.proofs.Laws.{content_fits, graph_episodes}
 use Rattle.copying.specs.FairCopy.{linked_to}
 use Rattle.copying.proofs.Linked.{links_fewer}
@@ -17,7 +17,7 @@ write_links-requires c =
     let count = graph_episodes _ l.words.now l.episodes l.to_words l.passes in
     let size = row_length t a l.episodes w count c.requires.0 (omega arith) c.block_of.ensures in (
       rw (row_marks t a l.episodes w count c.requires.0 (omega arith) c.block_of.ensures)
-          (omega (arith, c.requires.3, links_fewer a (least_pause t a) (linked_to a (graph_of l.words.now).links l.episodes))),
+          (omega (arith, c.requires.3, links_fewer a (least_pause t a) (linked_to a (heard_graph (content_of l.words.now)).links l.episodes))),
       omega arith,
       row_short t a l.episodes w count c.requires.0 (omega arith) c.block_of.ensures (λ h i. (content_fits l.words.now h i).1),
     )
