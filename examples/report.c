@@ -45,6 +45,7 @@ static const uint32_t long_pauses[] = {
 static const uint32_t loop[] = {0x10000002, 0x20000000, 0x30000001, 0x20000001, 0x30000000, 0xF0000002};
 
 static uint32_t out[ZOHAPY_REPORT_WORDS(5)];
+static uint32_t copied[ZOHAPY_COPY_WORDS(3)];
 static uint32_t work[ZOHAPY_WORK_WORDS];
 static int failed = 0;
 
@@ -106,53 +107,44 @@ static void print_refusal(uint32_t meant, uint32_t number, size_t place) {
     }
 }
 
+/* The calls for a fair and for a trimmed copy. */
+typedef zohapy_answer copying(const uint32_t *, size_t, uint32_t *, size_t, uint32_t *, size_t);
+
+/* Prints a line of a name and the words of a copy of a log, which must have one. */
+static void print_copy(const char *name, copying *call, const uint32_t *log, size_t log_words) {
+    zohapy_answer copy = call(log, log_words, copied, WORDS(copied), work, WORDS(work));
+    if (copy.number != 0) {
+        fprintf(stderr, "a copy was meant: %s\n", name);
+        failed = 1;
+        return;
+    }
+    print_words(name, copied, copy.value);
+}
+
 int main(void) {
     print_report(whole, WORDS(whole));
+    print_copy("copy", zohapy_fair_copy, whole, WORDS(whole));
 
-    uint32_t copied[ZOHAPY_COPY_WORDS(3)];
-    zohapy_answer copy = zohapy_fair_copy(whole, WORDS(whole), copied, WORDS(copied), work, WORDS(work));
-    if (copy.number != 0) {
-        fprintf(stderr, "a copy was meant\n");
-        return 1;
-    }
-    print_words("copy", copied, copy.value);
-
-    /* A link that is given twice counts once. Of its pauses the fair copy has the least, and its to words rise by episode. */
+    /* A link that is given twice is counted once. Of its pauses the fair copy has the least, and its to words rise by episode. */
     zohapy_read_answer reading = zohapy_read(paused, WORDS(paused));
     zohapy_answer links = zohapy_links(paused, WORDS(paused));
-    copy = zohapy_fair_copy(paused, WORDS(paused), copied, WORDS(copied), work, WORDS(work));
-    if (reading.number != 0 || links.number != 0 || copy.number != 0) {
-        fprintf(stderr, "a copy was meant\n");
+    if (reading.number != 0 || links.number != 0) {
+        fprintf(stderr, "a log that passes was meant\n");
         return 1;
     }
     print_links(paused, WORDS(paused));
     printf("to words %zu\nlinks %zu\n", reading.links, links.value);
-    print_words("copy", copied, copy.value);
+    print_copy("copy", zohapy_fair_copy, paused, WORDS(paused));
 
     /* The trimmed copy leaves out 0-2. */
-    copy = zohapy_trimmed_copy(beside, WORDS(beside), copied, WORDS(copied), work, WORDS(work));
-    if (copy.number != 0) {
-        fprintf(stderr, "a trimmed copy was meant\n");
-        return 1;
-    }
-    print_words("trimmed", copied, copy.value);
+    print_copy("trimmed", zohapy_trimmed_copy, beside, WORDS(beside));
 
     /* The fair copy keeps the version and the link that does not count; the trimmed copy is of version 0 without it. */
     printf("version %" PRIu32 " of %" PRIu32 " episodes\n", ZOHAPY_HEAD_VERSION(long_pauses[0]),
            ZOHAPY_HEAD_EPISODES(long_pauses[0]));
     print_report(long_pauses, WORDS(long_pauses));
-    copy = zohapy_fair_copy(long_pauses, WORDS(long_pauses), copied, WORDS(copied), work, WORDS(work));
-    if (copy.number != 0) {
-        fprintf(stderr, "a copy was meant\n");
-        return 1;
-    }
-    print_words("copy", copied, copy.value);
-    copy = zohapy_trimmed_copy(long_pauses, WORDS(long_pauses), copied, WORDS(copied), work, WORDS(work));
-    if (copy.number != 0) {
-        fprintf(stderr, "a trimmed copy was meant\n");
-        return 1;
-    }
-    print_words("trimmed", copied, copy.value);
+    print_copy("copy", zohapy_fair_copy, long_pauses, WORDS(long_pauses));
+    print_copy("trimmed", zohapy_trimmed_copy, long_pauses, WORDS(long_pauses));
 
     for (size_t i = 0; i < WORDS(refused); i++) {
         zohapy_read_answer answer = zohapy_read(refused[i].words, refused[i].count);

@@ -4,18 +4,15 @@ mod common;
 
 use std::collections::{BTreeMap, BTreeSet};
 
-use common::random;
+use common::{OLD, copied, random, trimmed};
 use zohapy::{
-    Failure, Link, Outcome, Reading, Refusal, Report, TrimOutcome, WORK_WORDS, copy_words, episode, fair_copy, kind, link_count,
-    links, number, pause, read, report, report_words, to_word, trimmed_copy,
+    Failure, Link, Outcome, Reading, Refusal, Report, WORK_WORDS, episode, kind, link_count, links, number, pause, read, report,
+    report_words, to_word,
 };
 
 /// 5 episodes; 0-2 after 20 minutes, 0-1 after 90, 3-4 without a pause, and 0-1 again, after 45.
 const PAUSED: [u32; 9] =
     [0x1000_0005, 0x2000_0000, 0x3014_0002, 0x305A_0001, 0x2000_0003, 0x3000_0004, 0x2000_0000, 0x302D_0001, 0xF000_0004];
-
-/// Stands in every word of a buffer before a call.
-const OLD: u32 = 0xABCD_EF01;
 
 /// A log of links (from, to, pause), one group for each.
 fn log(n: u32, links: &[(u32, u32, u32)]) -> Vec<u32> {
@@ -23,23 +20,6 @@ fn log(n: u32, links: &[(u32, u32, u32)]) -> Vec<u32> {
     words.extend(links.iter().flat_map(|(from, to, pause)| [0x2000_0000 | from, 0x3000_0000 | pause << 16 | to]));
     words.push(0xF000_0000 | links.len() as u32);
     words
-}
-
-/// The fair copy of a log; what is left of both buffers is checked.
-fn copied(log: &[u32]) -> Vec<u32> {
-    let mut out = vec![OLD; copy_words(read(log).expect("the log passes").links) + 3];
-    let mut work = vec![OLD; WORK_WORDS + 3];
-    let count = fair_copy(log, &mut out, &mut work).expect("the log has a fair copy");
-    assert!(out[count..].iter().chain(&work[WORK_WORDS..]).all(|word| *word == OLD));
-    assert!(work[..WORK_WORDS].iter().all(|word| *word == 0));
-    out[..count].to_vec()
-}
-
-/// The trimmed copy of a log.
-fn trimmed(log: &[u32]) -> Vec<u32> {
-    let mut out = vec![OLD; copy_words(read(log).expect("the log passes").links)];
-    let TrimOutcome::Trimmed(count) = trimmed_copy(log, &mut out, &mut vec![OLD; WORK_WORDS]) else { panic!("there is no loop") };
-    out[..count].to_vec()
 }
 
 /// The fair copy of links, by a sorted table of their least pauses.
@@ -266,9 +246,9 @@ fn fair_copies_are_equal_exactly_when_the_links_and_their_least_pauses_are() {
 #[test]
 fn a_trimmed_copy_has_pause_0() {
     let copy = [0x1000_0005, 0x2000_0000, 0x3000_0001, 0x3000_0002, 0x2000_0003, 0x3000_0004, 0xF000_0003];
-    assert_eq!(trimmed(&PAUSED), copy);
+    assert_eq!(trimmed(&PAUSED).1, copy);
     // 0-2 is implied, however short its pause.
     let beside = log(3, &[(0, 2, 1), (0, 1, 30), (1, 2, 40)]);
-    assert_eq!(trimmed(&beside), log(3, &[(0, 1, 0), (1, 2, 0)]));
-    assert_eq!(trimmed(&copied(&beside)), trimmed(&beside));
+    assert_eq!(trimmed(&beside).1, log(3, &[(0, 1, 0), (1, 2, 0)]));
+    assert_eq!(trimmed(&copied(&beside)).1, trimmed(&beside).1);
 }

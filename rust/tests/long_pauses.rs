@@ -4,16 +4,13 @@ mod common;
 
 use std::collections::BTreeMap;
 
-use common::random;
+use common::{copied, copy_refusal, random, report_refusal, reported, trim_refusal, trimmed};
 use zohapy::{
-    Failure, LONGEST_PAUSE, Link, Outcome, Reading, Refusal, Report, TrimOutcome, WORK_WORDS, copy_words, counts, fair_copy,
-    head_episodes, head_version, head_word, kind, link_count, links, number, read, report, report_words, trimmed_copy,
+    Failure, LONGEST_PAUSE, Link, Outcome, Reading, Refusal, Report, TrimOutcome, WORK_WORDS, counts, head_episodes,
+    head_version, head_word, kind, link_count, links, number, read, report_words,
 };
 
 const HEADER: &str = include_str!("../../include/zohapy.h");
-
-/// Stands in every word of a buffer before a call.
-const OLD: u32 = 0xABCD_EF01;
 
 /// 4 episodes; 0-1 after 360 minutes, 1-2 after 400 and again after 200, 2-3 after 361. In version 1 the last does not count.
 const LINKS: [(u32, u32, u32); 4] = [(0, 1, 360), (1, 2, 400), (1, 2, 200), (2, 3, 361)];
@@ -26,56 +23,9 @@ fn log(version: u32, n: u32, links: &[(u32, u32, u32)]) -> Vec<u32> {
     words
 }
 
-/// The report of a log, the words that it writes, and the rest of both buffers checked.
-fn reported(log: &[u32]) -> (Outcome, Vec<u32>) {
-    let (mut out, mut work) = (vec![OLD; report_words(200)], vec![OLD; WORK_WORDS + 3]);
-    let outcome = report(log, &mut out, &mut work);
-    let count = match outcome {
-        Outcome::Report(count) => count,
-        Outcome::Loop(length) => length + 1,
-        Outcome::Refused(refusal) => panic!("{refusal}"),
-    };
-    check_rest(&out[count..], &work);
-    (outcome, out[..count].to_vec())
-}
-
-/// The fair copy of a log, with as few output words as it needs, and the rest of both buffers checked.
-fn copied(log: &[u32]) -> Vec<u32> {
-    let mut out = vec![OLD; copy_words(read(log).expect("the log passes").links)];
-    let mut work = vec![OLD; WORK_WORDS + 3];
-    let count = fair_copy(log, &mut out, &mut work).expect("the log has a fair copy");
-    check_rest(&out[count..], &work);
-    out[..count].to_vec()
-}
-
-/// The trimmed copy of a log, or its loop, in the same way.
-fn trimmed(log: &[u32]) -> (TrimOutcome, Vec<u32>) {
-    let mut out = vec![OLD; copy_words(read(log).expect("the log passes").links)];
-    let mut work = vec![OLD; WORK_WORDS + 3];
-    let outcome = trimmed_copy(log, &mut out, &mut work);
-    let count = match outcome {
-        TrimOutcome::Trimmed(count) => count,
-        TrimOutcome::Loop(length) => length + 1,
-        TrimOutcome::Refused(refusal) => panic!("{refusal}"),
-    };
-    check_rest(&out[count..], &work);
-    (outcome, out[..count].to_vec())
-}
-
-/// Checks that the output behind the answer's words is unchanged, and the work words zero, with the others unchanged.
-fn check_rest(behind: &[u32], work: &[u32]) {
-    assert!(behind.iter().chain(&work[WORK_WORDS..]).all(|word| *word == OLD));
-    assert!(work[..WORK_WORDS].iter().all(|word| *word == 0));
-}
-
-/// The refusals of the three services that write, with buffers of these lengths; they must not change.
+/// The refusals of the three services that write, with buffers of these lengths.
 fn refusals(log: &[u32], out_words: usize, work_words: usize) -> [Refusal; 3] {
-    let (mut out, mut work) = (vec![OLD; out_words], vec![OLD; work_words]);
-    let Outcome::Refused(of_report) = report(log, &mut out, &mut work) else { panic!("the report is refused") };
-    let of_fair = fair_copy(log, &mut out, &mut work).expect_err("the fair copy is refused");
-    let TrimOutcome::Refused(of_trimmed) = trimmed_copy(log, &mut out, &mut work) else { panic!("the trimmed copy is refused") };
-    assert!(out.iter().chain(&work).all(|word| *word == OLD));
-    [of_report, of_fair, of_trimmed]
+    [report_refusal, copy_refusal, trim_refusal].map(|refusal| refusal(log, out_words, work_words))
 }
 
 /// The least pause of each link.

@@ -1,7 +1,10 @@
 //! The six services on lent buffers: the small logs worked through, every refusal, and what is left in the buffers.
 
+mod common;
+
+use common::{OLD, copy_refusal, report_refusal, reported, trim_refusal, trimmed};
 use zohapy::{
-    Outcome, Reading, Refusal, TrimOutcome, WORK_WORDS, copy_words, fair_copy, link_count, read, report, report_words, thread,
+    Outcome, Reading, Refusal, TrimOutcome, WORK_WORDS, copy_words, fair_copy, link_count, read, report_words, thread,
     trimmed_copy,
 };
 
@@ -23,75 +26,12 @@ const WHOLE_REPORT: [u32; 13] = [
     0xF000_000C,
 ];
 
-/// Stands in every word of a buffer before a call.
-const OLD: u32 = 0xABCD_EF01;
-
 /// A log of these links, one group for each.
 fn log(n: u32, links: &[(u32, u32)]) -> Vec<u32> {
     let mut words = vec![0x1000_0000 | n];
     words.extend(links.iter().flat_map(|(from, to)| [0x2000_0000 | from, 0x3000_0000 | to]));
     words.push(0xF000_0000 | links.len() as u32);
     words
-}
-
-/// A report call with the output that the log's episodes need and three words more. The answer's words; the rest is checked.
-fn reported(log: &[u32]) -> (Outcome, Vec<u32>) {
-    let mut out = vec![OLD; report_words(read(log).expect("the log passes").episodes) + 3];
-    let mut work = vec![OLD; WORK_WORDS + 3];
-    let outcome = report(log, &mut out, &mut work);
-    let count = match outcome {
-        Outcome::Report(count) => count,
-        Outcome::Loop(length) => length + 1,
-        Outcome::Refused(refusal) => panic!("{refusal}"),
-    };
-    check_rest(&out[count..], &work);
-    (outcome, out[..count].to_vec())
-}
-
-/// A trimmed copy call with the output that the log's to words need and three words more. The answer's words; the rest is
-/// checked.
-fn trimmed(log: &[u32]) -> (TrimOutcome, Vec<u32>) {
-    let mut out = vec![OLD; copy_words(read(log).expect("the log passes").links) + 3];
-    let mut work = vec![OLD; WORK_WORDS + 3];
-    let outcome = trimmed_copy(log, &mut out, &mut work);
-    let count = match outcome {
-        TrimOutcome::Trimmed(count) => count,
-        TrimOutcome::Loop(length) => length + 1,
-        TrimOutcome::Refused(refusal) => panic!("{refusal}"),
-    };
-    check_rest(&out[count..], &work);
-    (outcome, out[..count].to_vec())
-}
-
-/// Checks that the output behind the answer's words is unchanged, and the work words zero, with the others unchanged.
-fn check_rest(behind: &[u32], work: &[u32]) {
-    assert!(behind.iter().all(|word| *word == OLD));
-    assert!(work[..WORK_WORDS].iter().all(|word| *word == 0));
-    assert!(work[WORK_WORDS..].iter().all(|word| *word == OLD));
-}
-
-/// The refusal of a report call with buffers of these lengths; they must not change.
-fn report_refusal(log: &[u32], out_words: usize, work_words: usize) -> Refusal {
-    let (mut out, mut work) = (vec![OLD; out_words], vec![OLD; work_words]);
-    let Outcome::Refused(refusal) = report(log, &mut out, &mut work) else { panic!("the call is refused") };
-    assert!(out.iter().chain(&work).all(|word| *word == OLD));
-    refusal
-}
-
-/// The refusal of a fair copy call with buffers of these lengths; they must not change.
-fn copy_refusal(log: &[u32], out_words: usize, work_words: usize) -> Refusal {
-    let (mut out, mut work) = (vec![OLD; out_words], vec![OLD; work_words]);
-    let refusal = fair_copy(log, &mut out, &mut work).expect_err("the call is refused");
-    assert!(out.iter().chain(&work).all(|word| *word == OLD));
-    refusal
-}
-
-/// The refusal of a trimmed copy call with buffers of these lengths; they must not change.
-fn trim_refusal(log: &[u32], out_words: usize, work_words: usize) -> Refusal {
-    let (mut out, mut work) = (vec![OLD; out_words], vec![OLD; work_words]);
-    let TrimOutcome::Refused(refusal) = trimmed_copy(log, &mut out, &mut work) else { panic!("the call is refused") };
-    assert!(out.iter().chain(&work).all(|word| *word == OLD));
-    refusal
 }
 
 #[test]
