@@ -9,7 +9,7 @@
 
 static const uint32_t whole[] = {0x10000005, 0x20000000, 0x30000001, 0x20000002, 0x30000003, 0xF0000002};
 
-/* One log for each refusal of a reading but 8, which takes 4,097 to words. */
+/* Logs for each refusal of a reading but 8, which takes 4,097 to words. */
 static const struct {
     uint32_t number;
     size_t count;
@@ -23,6 +23,10 @@ static const struct {
     {5, 3, {0x10000005, 0x30000001, 0xF0000001}},             /* a to word before any from word */
     {6, 3, {0x10000005, 0x20000001, 0xF0000000}},             /* a from word without a to word */
     {7, 4, {0x10000005, 0x20000000, 0x30000005, 0xF0000001}}, /* episode 5 is not below 5 */
+    {20, 3, {0x10000079, ZOHAPY_VOICES_WORD(0, 1), 0xF0000000}}, /* voices among 121 episodes */
+    {7, 3, {0x10000005, ZOHAPY_VOICES_WORD(5, 2), 0xF0000000}}, /* voices of episode 5, which is not below 5 */
+    {19, 3, {0x10000005, ZOHAPY_VOICES_WORD(3, 3), 0xF0000000}}, /* three voices */
+    {21, 4, {0x10000005, ZOHAPY_VOICES_WORD(3, 2), ZOHAPY_VOICES_WORD(3, 2), 0xF0000000}}, /* voices of 3 again */
     {9, 4, {0x10000005, 0x20000000, 0x30000001, 0x30000002}}, /* no end */
     {10, 4, {0x10000005, 0x20000000, 0x30000001, 0xF0000000}}, /* the end says 0 and there is 1 */
 };
@@ -42,10 +46,16 @@ static const uint32_t long_pauses[] = {
     ZOHAPY_TO_WORD(2, ZOHAPY_LONGEST_PAUSE + 1), 0xF0000003,
 };
 
+/* 4 episodes and the links 0-1, 1-2 and 1-3. 3 is a duet and 1 a door. */
+static const uint32_t voiced[] = {
+    0x10000004, ZOHAPY_VOICES_WORD(3, 2), ZOHAPY_VOICES_WORD(1, 0), 0x20000000, 0x30000001, 0x20000001, 0x30000002, 0x30000003,
+    0xF0000003,
+};
+
 static const uint32_t loop[] = {0x10000002, 0x20000000, 0x30000001, 0x20000001, 0x30000000, 0xF0000002};
 
-static uint32_t out[ZOHAPY_REPORT_WORDS(5)];
-static uint32_t copied[ZOHAPY_COPY_WORDS(3)];
+static uint32_t out[ZOHAPY_REPORT_WORDS_WITH_VOICES(5)];
+static uint32_t copied[ZOHAPY_COPY_WORDS_WITH_VOICES(3, 2)];
 static uint32_t work[ZOHAPY_WORK_WORDS];
 static int failed = 0;
 
@@ -68,11 +78,14 @@ static void print_words(const char *name, const uint32_t *words, size_t count) {
     printf("\n");
 }
 
-/* Prints a line for each to word of a log that has passed the reading: its link and its pause. */
-static void print_links(const uint32_t *log, size_t log_words) {
+/* Prints a line for each voices word and each to word of a log that has passed the reading: its episode and voices, or its link
+ * and its pause. */
+static void print_log(const uint32_t *log, size_t log_words) {
     uint32_t from = 0;
     for (size_t i = 1; i + 1 < log_words; i++) {
-        if (log[i] >> 28 == 2)
+        if (log[i] >> 28 == 9)
+            printf("voices of %" PRIu32 ": %" PRIu32 "\n", ZOHAPY_EPISODE(log[i]), ZOHAPY_VOICES(log[i]));
+        else if (log[i] >> 28 == 2)
             from = number_of(log[i]);
         else
             printf("link %" PRIu32 "-%" PRIu32 " pause %" PRIu32 "\n", from, ZOHAPY_EPISODE(log[i]), ZOHAPY_PAUSE(log[i]));
@@ -89,9 +102,13 @@ static void print_report(const uint32_t *log, size_t log_words) {
         failed = 1;
         return;
     }
+    /* There are as many threads as the width says. The members can be fewer, where they have two voices. */
     size_t width = number_of(out[0]);
+    size_t members = 0;
+    while (out[1 + members] >> 28 == 5)
+        members++;
     printf("episodes %zu\nlinks %zu\nwidth %zu\n", reading.episodes, links.value, width);
-    print_numbers("apart", out + 1, width);
+    print_numbers("apart", out + 1, members);
     for (size_t i = 0; i < width; i++) {
         zohapy_thread_answer thread = zohapy_thread(out, report.value, i);
         print_numbers("thread", out + thread.start, thread.length);
@@ -132,7 +149,7 @@ int main(void) {
         fprintf(stderr, "a log that passes was meant\n");
         return 1;
     }
-    print_links(paused, WORDS(paused));
+    print_log(paused, WORDS(paused));
     printf("to words %zu\nlinks %zu\n", reading.links, links.value);
     print_copy("copy", zohapy_fair_copy, paused, WORDS(paused));
 
@@ -146,13 +163,22 @@ int main(void) {
     print_copy("copy", zohapy_fair_copy, long_pauses, WORDS(long_pauses));
     print_copy("trimmed", zohapy_trimmed_copy, long_pauses, WORDS(long_pauses));
 
+    /* Two threads hold the duet 3, and another passes the door 1. The copies have the voices rising by episode. */
+    print_log(voiced, WORDS(voiced));
+    print_report(voiced, WORDS(voiced));
+    print_copy("copy", zohapy_fair_copy, voiced, WORDS(voiced));
+    print_copy("trimmed", zohapy_trimmed_copy, voiced, WORDS(voiced));
+
     for (size_t i = 0; i < WORDS(refused); i++) {
         zohapy_read_answer answer = zohapy_read(refused[i].words, refused[i].count);
         print_refusal(refused[i].number, answer.number, answer.place);
     }
 
-    /* A report on the whole example with too short an output and with too few work words; neither changes a word. */
-    zohapy_answer answer = zohapy_report(whole, WORDS(whole), out, WORDS(out) - 1, work, WORDS(work));
+    /* Reports with too short an output, for which a voices word asks for more, and with too few work words. None changes a
+     * word. */
+    zohapy_answer answer = zohapy_report(whole, WORDS(whole), out, ZOHAPY_REPORT_WORDS(5) - 1, work, WORDS(work));
+    print_refusal(11, answer.number, answer.value);
+    answer = zohapy_report(voiced, WORDS(voiced), out, ZOHAPY_REPORT_WORDS(4), work, WORDS(work));
     print_refusal(11, answer.number, answer.value);
     answer = zohapy_report(whole, WORDS(whole), out, WORDS(out), work, WORDS(work) - 1);
     print_refusal(12, answer.number, answer.value);

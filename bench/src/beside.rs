@@ -2,10 +2,10 @@
 //! call with both in turn; which of the two is first changes from round to round.
 
 use crate::builds::{self, Build, Function, SERVICES};
-use crate::shapes::{self, EPISODES, WORDS};
+use crate::shapes;
 use crate::times::{least, microseconds, middle};
 use std::hint::black_box;
-use zohapy::{WORK_WORDS, copy_words, head_version, report_words};
+use zohapy::{WORK_WORDS, head_version, kind};
 
 /// How many rounds each pair of builds has.
 const ROUNDS: usize = 301;
@@ -13,14 +13,20 @@ const ROUNDS: usize = 301;
 /// One of the calls: its service, by its place in [`SERVICES`], and its log with its key.
 struct Call<'a> {
     service: usize,
-    key: &'static str,
+    key: &'a str,
     log: &'a [u32],
 }
 
-/// The logs that both builds take: before version 0.6.0 every log of version 1 was refused.
-fn logs_for(pair: &[Build; 2]) -> Vec<(&'static str, Vec<u32>)> {
-    let mut logs = shapes::in_groups();
-    logs.retain(|(_, log)| head_version(log[0]) == 0 || pair.iter().all(|build| made(build[0], log).0[0] == 0));
+/// Whether each version of the library takes a log that the newest takes: before 0.6.0 every log of version 1 was refused, and
+/// before 0.7.0 every log with voices words.
+fn is_for_each(log: &[u32]) -> bool {
+    head_version(log[0]) == 0 && kind(log[1]) != 9
+}
+
+/// The logs that both builds take.
+fn logs_for(pair: &[Build; 2]) -> Vec<(String, Vec<u32>)> {
+    let mut logs = shapes::for_builds();
+    logs.retain(|(_, log)| is_for_each(log) || pair.iter().all(|build| made(build[0], log).0[0] == 0));
     logs
 }
 
@@ -30,14 +36,14 @@ pub fn print_keys(old: &str, new: &str) {
 }
 
 /// Each service that both builds have on each log.
-fn calls<'a>([old, new]: &[Build; 2], logs: &'a [(&'static str, Vec<u32>)]) -> Vec<Call<'a>> {
+fn calls<'a>([old, new]: &[Build; 2], logs: &'a [(String, Vec<u32>)]) -> Vec<Call<'a>> {
     let services = 0..old.len().min(new.len());
     logs.iter().flat_map(|(key, log)| services.clone().map(move |service| Call { service, key, log })).collect()
 }
 
 /// An output and work words, more than enough for each call.
 fn buffers() -> [Vec<u32>; 2] {
-    [vec![7; report_words(EPISODES).max(copy_words(WORDS)) + 16], vec![7; WORK_WORDS + 16]]
+    [[crate::output(), vec![7; 16]].concat(), vec![7; WORK_WORDS + 16]]
 }
 
 /// What a call gives and leaves: the answer, the log, the output and the work words.
@@ -105,7 +111,7 @@ pub fn print(paths: &[&str]) {
 /// One call of a build; nothing where there is no such service or log.
 pub fn call(library: &str, service: &str, key: &str) -> Option<()> {
     let service = SERVICES.iter().position(|&name| name == service)?;
-    let (_, log) = shapes::in_groups().into_iter().find(|log| log.0 == key)?;
+    let (_, log) = shapes::for_builds().into_iter().find(|log| log.0 == key)?;
     let [mut out, mut work] = buffers();
     black_box(builds::open(library).get(service)?.call(black_box(&log), &mut out, &mut work));
     Some(())
@@ -136,29 +142,36 @@ mod tests {
         std::panic::catch_unwind(|| check(&pair, &Call { service: 0, key: "", log: &[] })).is_err()
     }
 
-    /// A reading that refuses every version above `NEWEST`.
+    /// A reading that refuses version 1 where `NEWEST` is below 6, and voices words where it is below 7.
     unsafe extern "C" fn reading<const NEWEST: u32>(log: *const u32, _: usize) -> ReadAnswer {
-        // SAFETY: the pointer is that of a slice with a word or more.
-        let refused = head_version(unsafe { *log }) > NEWEST;
+        // SAFETY: the pointer is that of a slice with two words or more.
+        let [head, next] = unsafe { [*log, *log.add(1)] };
+        let refused = NEWEST < 6 && head_version(head) > 0 || NEWEST < 7 && kind(next) == 9;
         ReadAnswer { number: if refused { 3 } else { 0 }, place: 0, episodes: 0, links: 0 }
     }
 
     #[test]
-    fn a_log_of_version_1_is_left_out_where_one_build_refuses_it() {
-        let [older, newer] = [Function::Reading(reading::<0>), Function::Reading(reading::<1>)];
-        let keys = |old, new| logs_for(&[vec![old], vec![new]]).into_iter().map(|log| log.0).collect::<Vec<_>>();
-        let all: Vec<_> = shapes::in_groups().into_iter().map(|log| log.0).collect();
-        assert_eq!(keys(newer, newer), all);
-        assert_eq!(all[all.len() - 2..], ["by-1-long", "dense-long"]);
+    fn a_log_is_left_out_where_one_build_refuses_it() {
+        let [oldest, older, newer] =
+            [reading::<5>, reading::<6>, reading::<7>].map(|reading: unsafe extern "C" fn(_, _) -> _| Function::Reading(reading));
+        let logs = |old, new| logs_for(&[vec![old], vec![new]]);
+        let all = shapes::for_builds();
+        assert_eq!(logs(newer, newer), all);
+        let without_voices: Vec<_> = all.iter().filter(|(_, log)| kind(log[1]) != 9).cloned().collect();
+        assert!(without_voices.len() + shapes::with_voices().len() == all.len());
         for (old, new) in [(older, newer), (newer, older), (older, older)] {
-            assert_eq!(keys(old, new), all[..all.len() - 2]);
+            assert_eq!(logs(old, new), without_voices);
+        }
+        let of_version_0: Vec<_> = without_voices.into_iter().filter(|(_, log)| head_version(log[0]) == 0).collect();
+        for (old, new) in [(oldest, newer), (newer, oldest), (oldest, older), (oldest, oldest)] {
+            assert_eq!(logs(old, new), of_version_0);
         }
     }
 
     #[test]
     fn a_service_that_one_build_lacks_is_left_out() {
         let [more, fewer] = [5, 4].map(|count| vec![Function::Lending(lending::<1, 2, 3>); count]);
-        let logs = [("one", vec![]), ("other", vec![])];
+        let logs = [("one".into(), vec![]), ("other".into(), vec![])];
         for pair in [[more.clone(), fewer.clone()], [fewer, more]] {
             let calls = calls(&pair, &logs);
             assert_eq!(calls.iter().map(|call| call.service).collect::<Vec<_>>(), [0, 1, 2, 3, 0, 1, 2, 3]);

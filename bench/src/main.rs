@@ -21,7 +21,7 @@ mod shapes;
 mod times;
 
 use std::hint::black_box;
-use zohapy::{WORK_WORDS, copy_words, report_words};
+use zohapy::{MOST_WITH_VOICES, WORK_WORDS, copy_words_with_voices, report_words};
 
 /// The log of a key: a shape's, the whole example, or `random-COUNT`.
 fn log_named(key: &str) -> Option<Vec<u32>> {
@@ -31,12 +31,17 @@ fn log_named(key: &str) -> Option<Vec<u32>> {
     if let Some(count) = key.strip_prefix("random-") {
         return Some(shapes::log_of(200, &shapes::random(2, 200, 200, count.parse().ok()?)));
     }
-    shapes::all().into_iter().find(|shape| shape.key == key).map(|shape| shape.log)
+    shapes::all().into_iter().chain(shapes::with_voices()).find(|shape| shape.key == key).map(|shape| shape.log)
+}
+
+/// An output that is long enough for every call.
+fn output() -> Vec<u32> {
+    vec![7; report_words(shapes::EPISODES).max(copy_words_with_voices(shapes::WORDS, MOST_WITH_VOICES))]
 }
 
 /// One call of the program that is named.
 fn call(program: &str, log: &[u32]) -> Option<()> {
-    let mut out = vec![7; report_words(200).max(copy_words(4096))];
+    let mut out = output();
     let mut work = vec![7; WORK_WORDS];
     match program {
         "read" => drop(black_box(zohapy::read(black_box(log)))),

@@ -1,7 +1,7 @@
 //! The services that are measured: a call of the library and one of the plain program, with answers of one form.
 
-use crate::plain;
-use zohapy::{Outcome, Reading, Refusal, TrimOutcome, copy_words, report_words};
+use crate::plain::{self, Figures};
+use zohapy::{Outcome, Refusal, TrimOutcome};
 
 /// The count of words written, or the link count; or the refusal. After 13 the output begins with a loop.
 pub type Answer = Result<usize, Refusal>;
@@ -13,7 +13,7 @@ pub struct Service {
     /// The library's call, then the plain program's.
     pub calls: [Call; 2],
     /// The output words that question 11 asks for.
-    pub needed: fn(Reading) -> usize,
+    pub needed: fn(Figures) -> usize,
     /// What it writes.
     pub written: Written,
 }
@@ -29,10 +29,9 @@ pub enum Written {
     Nothing,
 }
 
-pub const REPORT: Service =
-    Service { calls: [report, plain::report], needed: |log| report_words(log.episodes), written: Written::Free };
+pub const REPORT: Service = Service { calls: [report, plain::report], needed: Figures::report_words, written: Written::Free };
 pub const TRIMMED_COPY: Service =
-    Service { calls: [trimmed_copy, plain::trimmed_copy], needed: |log| copy_words(log.links), written: Written::Fixed };
+    Service { calls: [trimmed_copy, plain::trimmed_copy], needed: Figures::copy_words, written: Written::Fixed };
 pub const LINK_COUNT: Service = Service {
     calls: [|log, _, _| zohapy::link_count(log), |log, _, _| plain::link_count(log)],
     needed: |_| 0,

@@ -1,14 +1,18 @@
-//! The logs that are measured, the same in every run. They are of version 0 and have no pauses where nothing else is said.
+//! The logs that are measured, the same in every run. They are of version 0 and have no pauses and no voices words where nothing
+//! else is said.
 
-use zohapy::kind;
+use zohapy::{MOST_VOICES, MOST_WITH_VOICES, kind};
 
 pub type Links = Vec<(usize, usize)>;
+
+/// Episodes, each with its voices.
+pub type Marks = Vec<(usize, u32)>;
 
 /// The most episodes and the most to words of a log.
 pub const EPISODES: usize = 200;
 pub const WORDS: usize = 4096;
 
-/// A log of full size.
+/// A log of full size: 200 episodes, or 120 where it has voices words.
 pub struct Shape {
     /// The word by which a command names it.
     pub key: &'static str,
@@ -31,6 +35,15 @@ impl Numbers {
         self.0 ^= self.0 << 17;
         (self.0 >> 11) as usize % k
     }
+
+    /// The numbers below `k`, each once.
+    fn order(&mut self, k: usize) -> Vec<usize> {
+        let mut order: Vec<usize> = (0..k).collect();
+        for i in (1..k).rev() {
+            order.swap(i, self.below(i + 1));
+        }
+        order
+    }
 }
 
 /// A log with a group for each link, the longest form that it has.
@@ -41,10 +54,10 @@ pub fn log_of(n: usize, links: &[(usize, usize)]) -> Vec<u32> {
 }
 
 /// A log with a group for each `size` links of an episode, and for those that are left.
-fn log_in_groups(size: usize, links: &[(usize, usize)]) -> Vec<u32> {
+fn log_in_groups(n: usize, size: usize, links: &[(usize, usize)]) -> Vec<u32> {
     let mut sorted = links.to_vec();
     sorted.sort_by_key(|link| link.0);
-    let mut log = vec![0x1000_0000 + EPISODES as u32];
+    let mut log = vec![0x1000_0000 + n as u32];
     for group in sorted.chunk_by(|one, next| one.0 == next.0).flat_map(|links| links.chunks(size)) {
         log.push(0x2000_0000 + group[0].0 as u32);
         log.extend(group.iter().map(|link| 0x3000_0000 + link.1 as u32));
@@ -64,6 +77,24 @@ pub fn half_long(seed: u64, log: &[u32]) -> Vec<u32> {
     log.iter().map(of_version_1).collect()
 }
 
+/// The same log with a voices word for each mark, in their order.
+pub fn marked(marks: &[(usize, u32)], log: &[u32]) -> Vec<u32> {
+    let words = marks.iter().map(|&(v, voices)| 0x9000_0000 | voices << 16 | v as u32);
+    log[..1].iter().copied().chain(words).chain(log[1..].iter().copied()).collect()
+}
+
+/// Each of `n` episodes is a duet.
+fn duets(n: usize) -> Marks {
+    (0..n).map(|v| (v, MOST_VOICES)).collect()
+}
+
+/// Of `n` episodes about a third are duets and a twelfth doors, and a twelfth has a voices word that says 1. They come in no order.
+pub fn random_marks(seed: u64, n: usize) -> Marks {
+    let mut numbers = Numbers::from_seed(seed);
+    let order = numbers.order(n);
+    order.into_iter().filter_map(|v| Some((v, *[2, 2, 2, 2, 0, 1].get(numbers.below(12))?))).collect()
+}
+
 /// `count` random links from a lower number to one that is higher by at most `reach`. A link may come again.
 pub fn random(seed: u64, n: usize, reach: usize, count: usize) -> Links {
     let mut numbers = Numbers::from_seed(seed);
@@ -78,10 +109,15 @@ pub fn random(seed: u64, n: usize, reach: usize, count: usize) -> Links {
     links
 }
 
+/// One chain, rising.
+fn chain(n: usize) -> Links {
+    (0..n - 1).map(|a| (a, a + 1)).collect()
+}
+
 /// `layers` layers, with random links from each to the next.
-fn layered(seed: u64, layers: usize) -> Links {
+fn layered(seed: u64, n: usize, layers: usize) -> Links {
     let mut numbers = Numbers::from_seed(seed);
-    let size = EPISODES / layers;
+    let size = n / layers;
     let link = |_| {
         let first = size * numbers.below(layers - 1);
         (first + numbers.below(size), first + size + numbers.below(size))
@@ -89,44 +125,42 @@ fn layered(seed: u64, layers: usize) -> Links {
     (0..WORDS).map(link).collect()
 }
 
-/// 90 episodes with 90 links, 89, and so on down to 1, to the first of 90 others. Those with many links come first, and take what
-/// those with few links need.
-fn half_graph() -> Links {
-    (0..90).flat_map(|i| (0..90 - i).map(move |j| (i, 110 + j))).collect()
+/// The first `size` of `n` episodes with `size` links, one fewer, and so on down to 1, to the first of the last `size`. Those with
+/// many links come first, and take what those with few links need.
+fn half_graph(n: usize, size: usize) -> Links {
+    (0..size).flat_map(|i| (0..size - i).map(move |j| (i, n - size + j))).collect()
 }
 
-/// 49 episodes have ways to a hundred others and take the first 50 of them, to which alone 49 more episodes have ways.
-fn wrong_first_choices() -> Links {
-    let first = (0..49).flat_map(|a| [(a, 98), (a, 99)]);
-    let second = (49..98).map(|a| (a, 98));
-    let others = (0..50).flat_map(|i| [(98, 100 + i), (99, 150 + i)]);
+/// Of `n` episodes, a multiple of 4, nearly a quarter have ways to a half and take the first quarter of it, to which alone nearly a
+/// quarter more have ways.
+fn wrong_first_choices(n: usize) -> Links {
+    let (quarter, half) = (n / 4, n / 2);
+    let first = (0..quarter - 1).flat_map(|a| [(a, half - 2), (a, half - 1)]);
+    let second = (quarter - 1..half - 2).map(|a| (a, half - 2));
+    let others = (0..quarter).flat_map(|i| [(half - 2, half + i), (half - 1, half + quarter + i)]);
     first.chain(second).chain(others).collect()
 }
 
 /// A night of nine sleepers. An episode is heard near its sleeper's place, and linked to the later ones heard near there.
 /// Of these links the log has those that pass over the fewest episodes.
-fn night() -> Links {
+fn night(n: usize) -> Links {
     let mut numbers = Numbers::from_seed(9);
-    let heard: Vec<usize> = (0..EPISODES).map(|_| 100 * numbers.below(9) + numbers.below(61)).collect();
-    let mut links: Links = (0..EPISODES).flat_map(|a| (a + 1..EPISODES).map(move |b| (a, b))).collect();
+    let heard: Vec<usize> = (0..n).map(|_| 100 * numbers.below(9) + numbers.below(61)).collect();
+    let mut links: Links = (0..n).flat_map(|a| (a + 1..n).map(move |b| (a, b))).collect();
     links.retain(|&(a, b)| heard[a].abs_diff(heard[b]) <= 105);
     links.sort_by_key(|&(a, b)| b - a);
     links.truncate(WORDS);
     links
 }
 
-/// The same links with the episodes numbered from the other end.
-fn turned(links: Links) -> Links {
-    links.into_iter().map(|(a, b)| (EPISODES - 1 - a, EPISODES - 1 - b)).collect()
+/// The same links with the `n` episodes numbered from the other end.
+fn turned(n: usize, links: Links) -> Links {
+    links.into_iter().map(|(a, b)| (n - 1 - a, n - 1 - b)).collect()
 }
 
-/// The same links with the episodes numbered at random.
-fn shuffled(seed: u64, links: Links) -> Links {
-    let mut numbers = Numbers::from_seed(seed);
-    let mut new: Vec<usize> = (0..EPISODES).collect();
-    for i in (1..EPISODES).rev() {
-        new.swap(i, numbers.below(i + 1));
-    }
+/// The same links with the `n` episodes numbered at random.
+fn shuffled(seed: u64, n: usize, links: Links) -> Links {
+    let new = Numbers::from_seed(seed).order(n);
     links.into_iter().map(|(a, b)| (new[a], new[b])).collect()
 }
 
@@ -143,30 +177,34 @@ fn first_links() -> Links {
 }
 
 /// 4,096 random links, rising.
-fn dense() -> Links {
-    random(2, EPISODES, EPISODES, WORDS)
+fn dense(n: usize) -> Links {
+    random(2, n, n, WORDS)
+}
+
+/// 4,096 of the links, which are given again and again; none where there are none.
+fn again(links: Links) -> Links {
+    links.iter().copied().cycle().take(WORDS).collect()
 }
 
 /// Keys, names and links, of which there are 4,096 or none: shorter lists are given again and again.
 fn linked() -> Vec<(&'static str, &'static str, Links)> {
-    let chain: Links = (0..EPISODES - 1).map(|a| (a, a + 1)).collect();
+    let n = EPISODES;
     let shapes = vec![
         ("none", "no links", vec![]),
-        ("chain", "one chain, rising", chain.clone()),
-        ("chain-falling", "one chain, falling", turned(chain)),
-        ("sparse", "400 random links, rising", random(1, EPISODES, EPISODES, 400)),
-        ("dense", "4,096 random links, rising", dense()),
-        ("dense-falling", "4,096 random links, falling", turned(dense())),
-        ("dense-shuffled", "4,096 random links, numbered at random", shuffled(3, dense())),
-        ("two-layers", "two layers of 100, rising", layered(4, 2)),
-        ("two-layers-falling", "two layers of 100, falling", turned(layered(4, 2))),
-        ("ten-layers", "ten layers of 20, rising", layered(5, 10)),
-        ("half-graph", "half graph", half_graph()),
-        ("wrong-choices", "wrong first choices", wrong_first_choices()),
-        ("many-shrinks", "many shrinks", turned(random(926_366, EPISODES, 27, 1293))),
-        ("long-searches", "long searches", shuffled(7, random(139_996, EPISODES, 176, 1898))),
+        ("chain", "one chain, rising", chain(n)),
+        ("chain-falling", "one chain, falling", turned(n, chain(n))),
+        ("sparse", "400 random links, rising", random(1, n, n, 400)),
+        ("dense", "4,096 random links, rising", dense(n)),
+        ("dense-falling", "4,096 random links, falling", turned(n, dense(n))),
+        ("dense-shuffled", "4,096 random links, numbered at random", shuffled(3, n, dense(n))),
+        ("two-layers", "two layers of 100, rising", layered(4, n, 2)),
+        ("two-layers-falling", "two layers of 100, falling", turned(n, layered(4, n, 2))),
+        ("ten-layers", "ten layers of 20, rising", layered(5, n, 10)),
+        ("half-graph", "half graph", half_graph(n, 90)),
+        ("wrong-choices", "wrong first choices", wrong_first_choices(n)),
+        ("many-shrinks", "many shrinks", turned(n, random(926_366, n, 27, 1293))),
+        ("long-searches", "long searches", shuffled(7, n, random(139_996, n, 176, 1898))),
     ];
-    let again = |links: Links| links.iter().copied().cycle().take(WORDS).collect();
     shapes.into_iter().map(|(key, name, links)| (key, name, again(links))).collect()
 }
 
@@ -174,8 +212,8 @@ fn linked() -> Vec<(&'static str, &'static str, Links)> {
 pub fn all() -> Vec<Shape> {
     let shape = |(key, name, links): (_, _, Links)| Shape { key, name, log: log_of(EPISODES, &links) };
     let mut shapes: Vec<Shape> = linked().into_iter().map(shape).collect();
-    let night = log_in_groups(WORDS, &night());
-    let [dense_long, night_long] = [half_long(10, &log_of(EPISODES, &dense())), half_long(11, &night)];
+    let night = log_in_groups(EPISODES, WORDS, &night(EPISODES));
+    let [dense_long, night_long] = [half_long(10, &log_of(EPISODES, &dense(EPISODES))), half_long(11, &night)];
     shapes.extend([
         Shape { key: "night", name: "a night of nine sleepers", log: night },
         Shape { key: "dense-long", name: "4,096 random links, rising, version 1", log: dense_long },
@@ -184,22 +222,71 @@ pub fn all() -> Vec<Shape> {
     shapes
 }
 
+/// Keys, names and links of logs in which each of 120 episodes is a duet, as [`linked`] has them without voices words.
+fn linked_duets() -> Vec<(&'static str, &'static str, Links)> {
+    let n = MOST_WITH_VOICES;
+    let sparse = || random(1, n, n, 240);
+    vec![
+        ("duets-none", "no links", vec![]),
+        ("duets-chain", "one chain, rising", chain(n)),
+        ("duets-chain-falling", "one chain, falling", turned(n, chain(n))),
+        ("duets-sparse", "240 random links, rising", sparse()),
+        ("duets-sparse-shuffled", "240 random links, numbered at random", shuffled(3, n, sparse())),
+        ("duets-dense", "4,096 random links, rising", dense(n)),
+        ("duets-dense-falling", "4,096 random links, falling", turned(n, dense(n))),
+        ("duets-dense-shuffled", "4,096 random links, numbered at random", shuffled(3, n, dense(n))),
+        ("duets-two-layers", "two layers of 60, rising", layered(4, n, 2)),
+        ("duets-two-layers-falling", "two layers of 60, falling", turned(n, layered(4, n, 2))),
+        ("duets-ten-layers", "ten layers of 12, rising", layered(5, n, 10)),
+        ("duets-half-graph", "half graph", half_graph(n, 54)),
+        ("duets-wrong-choices", "wrong first choices", wrong_first_choices(n)),
+    ]
+}
+
+/// Logs of 120 episodes with voices words, and with 4,096 to words where there are links at all. In the last three some episodes
+/// are duets and some doors; the last one is of version 1.
+pub fn with_voices() -> Vec<Shape> {
+    let n = MOST_WITH_VOICES;
+    let shape = |(key, name, links)| Shape { key, name, log: marked(&duets(n), &log_of(n, &again(links))) };
+    let mut shapes: Vec<Shape> = linked_duets().into_iter().map(shape).collect();
+    let some = random_marks(13, n);
+    let night = marked(&some, &log_in_groups(n, WORDS, &again(night(n))));
+    let night_long = half_long(11, &night);
+    shapes.extend([
+        Shape {
+            key: "some-dense",
+            name: "4,096 random links, rising, duets and doors",
+            log: marked(&some, &log_of(n, &dense(n))),
+        },
+        Shape { key: "some-night", name: "a night of nine sleepers, duets and doors", log: night },
+        Shape { key: "some-night-long", name: "a night of nine sleepers, duets and doors, version 1", log: night_long },
+    ]);
+    shapes
+}
+
 /// Keys and logs with 4,096 to words, in groups of several lengths. The first three have the same links in the same order; the
 /// others have a group for each episode. The last two are of version 1.
 pub fn in_groups() -> Vec<(&'static str, Vec<u32>)> {
     let links = sixteens(6);
+    let log = |size, links: &[_]| log_in_groups(EPISODES, size, links);
     let mut logs = vec![
-        ("by-episode", log_in_groups(WORDS, &links)),
-        ("by-16", log_in_groups(16, &links)),
-        ("by-1", log_in_groups(1, &links)),
-        ("first-links", log_in_groups(WORDS, &first_links())),
+        ("by-episode", log(WORDS, &links)),
+        ("by-16", log(16, &links)),
+        ("by-1", log(1, &links)),
+        ("first-links", log(WORDS, &first_links())),
     ];
     let keys = ["chain", "dense", "dense-falling", "two-layers", "ten-layers", "wrong-choices"];
     let chosen = linked().into_iter().filter(|(key, ..)| keys.contains(key));
-    logs.extend(chosen.map(|(key, _, links)| (key, log_in_groups(WORDS, &links))));
-    logs.push(("by-1-long", half_long(12, &log_in_groups(1, &links))));
-    logs.push(("dense-long", half_long(10, &log_in_groups(WORDS, &dense()))));
+    logs.extend(chosen.map(|(key, _, links)| (key, log(WORDS, &links))));
+    logs.push(("by-1-long", half_long(12, &log(1, &links))));
+    logs.push(("dense-long", half_long(10, &log(WORDS, &dense(EPISODES)))));
     logs
+}
+
+/// Keys and logs for a build beside an older one: those in groups, then the shapes, of which those with voices words come last.
+pub fn for_builds() -> Vec<(String, Vec<u32>)> {
+    let shapes = all().into_iter().chain(with_voices()).map(|shape| (format!("shape-{}", shape.key), shape.log));
+    in_groups().into_iter().map(|(key, log)| (key.into(), log)).chain(shapes).collect()
 }
 
 #[cfg(test)]
@@ -242,9 +329,38 @@ mod tests {
 
     #[test]
     fn each_log_is_full_and_has_no_loop() {
-        for (key, log) in in_groups() {
-            assert_eq!(zohapy::read(&log), Ok(zohapy::Reading { episodes: EPISODES, links: WORDS }), "{key}");
+        for (key, log) in for_builds() {
+            let episodes = if kind(log[1]) == 9 { MOST_WITH_VOICES } else { EPISODES };
+            let links = if key.ends_with("-none") { 0 } else { WORDS };
+            assert_eq!(zohapy::read(&log), Ok(zohapy::Reading { episodes, links }), "{key}");
             assert!(zohapy::Report::of(&log).is_ok(), "{key}");
         }
+    }
+
+    #[test]
+    fn marks_are_as_said() {
+        for shape in with_voices() {
+            let marks = zohapy::marks(&shape.log).expect("the log passes");
+            let count = |voices| marks.iter().filter(|mark| mark.voices == voices).count();
+            let counts = [0, 1, 2].map(count);
+            if shape.key.starts_with("duets") {
+                assert_eq!(counts, [0, 0, MOST_WITH_VOICES], "{}", shape.key);
+            } else {
+                assert!(counts[0] >= 5 && counts[1] >= 5 && counts[2].abs_diff(MOST_WITH_VOICES / 3) < 10, "{counts:?}");
+                assert!(!marks.is_sorted(), "{}", shape.key);
+            }
+        }
+        assert!(all().iter().all(|shape| zohapy::marks(&shape.log) == Ok(vec![])));
+    }
+
+    #[test]
+    fn without_links_the_width_is_that_of_the_voices() {
+        let width = |key: &str| {
+            let shape = with_voices().into_iter().find(|shape| shape.key == key).expect("it is one of the shapes");
+            zohapy::Report::of(&shape.log).expect("the log has a report").width
+        };
+        assert_eq!(width("duets-none"), 240);
+        assert_eq!(width("duets-chain"), 2);
+        assert_eq!(width("duets-two-layers"), 120);
     }
 }

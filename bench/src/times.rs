@@ -3,10 +3,10 @@
 
 use crate::checks;
 use crate::services::{LINK_COUNT, REPORT, Service, TRIMMED_COPY};
-use crate::shapes::{self, EPISODES, WORDS, log_of, random};
+use crate::shapes::{self, EPISODES, Shape, WORDS, log_of, random};
 use std::hint::black_box;
 use std::time::Instant;
-use zohapy::{Reading, WORK_WORDS};
+use zohapy::WORK_WORDS;
 
 /// A row of a table.
 struct Row {
@@ -23,7 +23,7 @@ struct Row {
 impl Row {
     /// The answers of both programs are checked here.
     fn new(name: String, log: Vec<u32>) -> Self {
-        let words = checks::figures(&log).links;
+        let words = checks::figures(&log).to_words;
         let (width, kept, links) = (checks::check_report(&log), checks::check_trimmed(&log), checks::check_count(&log));
         Row { name, words, width, kept, links, log }
     }
@@ -55,7 +55,8 @@ pub fn microseconds<T>(call: impl FnOnce() -> T) -> f64 {
 }
 
 fn measure(service: &Service, rows: &[&Row], rounds: usize) -> Vec<Times> {
-    let mut out = vec![0; (service.needed)(Reading { episodes: EPISODES, links: WORDS })];
+    let needed = rows.iter().map(|row| (service.needed)(checks::figures(&row.log))).max();
+    let mut out = vec![0; needed.unwrap_or(0)];
     let mut work = vec![0; WORK_WORDS];
     let mut all: Vec<Times> = rows.iter().map(|_| Times::default()).collect();
     for round in 0..rounds {
@@ -101,38 +102,39 @@ fn clearing(rounds: usize) -> f64 {
     middle(&times)
 }
 
-/// The tables: what their first column is, and their rows.
-fn tables() -> [(&'static str, Vec<Row>); 3] {
-    let shapes = shapes::all().into_iter();
-    let shapes = shapes.map(|shape| Row::new(shape.name.into(), shape.log));
+/// The tables: what their first column is, and their rows. The first two are of shapes.
+fn tables() -> [(&'static str, Vec<Row>); 4] {
+    let rows = |shapes: Vec<Shape>| shapes.into_iter().map(|shape| Row::new(shape.name.into(), shape.log)).collect();
     let words = |n: usize| WORDS * n * (n - 1) / (EPISODES * (EPISODES - 1));
     let sizes = [25, 50, 100, 200].map(|n| Row::random(n.to_string(), n, words(n)));
     let counts = [512, 1024, 2048, 4096].map(|count| Row::random(EPISODES.to_string(), EPISODES, count));
     [
-        ("shape, 200 episodes", shapes.collect()),
+        ("shape, 200 episodes", rows(shapes::all())),
+        ("shape with voices, 120 episodes", rows(shapes::with_voices())),
         ("episodes, random links at one density", sizes.into()),
         ("episodes, random links", counts.into()),
     ]
+}
+
+/// Measures a service on the rows of tables, and prints these. Behind the to words stands one more figure of each row.
+fn print_tables(service: &Service, figure: (&str, fn(&Row) -> usize), tables: &[(&str, Vec<Row>)], rounds: usize) {
+    let rows: Vec<&Row> = tables.iter().flat_map(|table| &table.1).collect();
+    let times = measure(service, &rows, rounds);
+    let mut times = times.iter();
+    for (first, rows) in tables {
+        print_table(first, figure, rows, &mut times);
+    }
 }
 
 /// Prints the tables of times.
 pub fn print(rounds: usize) {
     checks::check_small();
     let tables = tables();
-    let rows: Vec<&Row> = tables.iter().flat_map(|table| &table.1).collect();
-    let all = measure(&REPORT, &rows, rounds);
     println!("Microseconds, the middle of {rounds} rounds; the ratio is library / plain.");
     println!("The clearing of the work words, which both do, takes {:.1} of them.", clearing(rounds));
-    let mut times = all.iter();
-    for (first, rows) in &tables {
-        print_table(first, ("width", |row| row.width), rows, &mut times);
-    }
-    let (first, shapes) = &tables[0];
-    let rows: Vec<&Row> = shapes.iter().collect();
+    print_tables(&REPORT, ("width", |row| row.width), &tables, rounds);
     println!("\nThe same for the trimmed copy.");
-    let times = measure(&TRIMMED_COPY, &rows, rounds);
-    print_table(first, ("links kept", |row| row.kept), shapes, times.iter());
+    print_tables(&TRIMMED_COPY, ("links kept", |row| row.kept), &tables[..2], rounds);
     println!("\nThe same for the link count.");
-    let times = measure(&LINK_COUNT, &rows, rounds);
-    print_table(first, ("links", |row| row.links), shapes, times.iter());
+    print_tables(&LINK_COUNT, ("links", |row| row.links), &tables[..2], rounds);
 }

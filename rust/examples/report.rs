@@ -3,22 +3,26 @@
 
 use std::error::Error;
 
-use zohapy::{Failure, LONGEST_PAUSE, Link, Outcome, Refusal, Report, TrimOutcome, WORK_WORDS};
+use zohapy::{Failure, LONGEST_PAUSE, Link, Mark, Outcome, Refusal, Report, TrimOutcome, WORK_WORDS};
 
 const WHOLE: [u32; 6] = [0x1000_0005, 0x2000_0000, 0x3000_0001, 0x2000_0002, 0x3000_0003, 0xF000_0002];
 
-/// One log for each refusal of a reading but 8, which takes 4,097 to words.
-const REFUSED: [&[u32]; 10] = [
-    &[0x1000_0005],                                        // 1: fewer than two words
-    &[0x2000_0005, 0xF000_0000],                           // 2: no head
-    &[zohapy::head_word(2, 5).unwrap(), 0xF000_0000],      // 18: version 2
-    &[0x1000_00C9, 0xF000_0000],                           // 3: 201 episodes
-    &[0x1000_0005, 0x7000_0000, 0xF000_0000],              // 4: neither a from word nor a to word
-    &[0x1000_0005, 0x3000_0001, 0xF000_0001],              // 5: a to word before any from word
-    &[0x1000_0005, 0x2000_0001, 0xF000_0000],              // 6: a from word without a to word
-    &[0x1000_0005, 0x2000_0000, 0x3000_0005, 0xF000_0001], // 7: episode 5 is not below 5
-    &[0x1000_0005, 0x2000_0000, 0x3000_0001, 0x3000_0002], // 9: no end
-    &[0x1000_0005, 0x2000_0000, 0x3000_0001, 0xF000_0000], // 10: the end says 0 and there is 1
+/// Logs for each refusal of a reading but 8, which takes 4,097 to words.
+const REFUSED: [&[u32]; 14] = [
+    &[0x1000_0005],                                                    // 1: fewer than two words
+    &[0x2000_0005, 0xF000_0000],                                       // 2: no head
+    &[zohapy::head_word(2, 5).unwrap(), 0xF000_0000],                  // 18: version 2
+    &[0x1000_00C9, 0xF000_0000],                                       // 3: 201 episodes
+    &[0x1000_0005, 0x7000_0000, 0xF000_0000],                          // 4: neither a from word nor a to word
+    &[0x1000_0005, 0x3000_0001, 0xF000_0001],                          // 5: a to word before any from word
+    &[0x1000_0005, 0x2000_0001, 0xF000_0000],                          // 6: a from word without a to word
+    &[0x1000_0005, 0x2000_0000, 0x3000_0005, 0xF000_0001],             // 7: episode 5 is not below 5
+    &[0x1000_0079, voices_word(0, 1), 0xF000_0000],                    // 20: voices among 121 episodes
+    &[0x1000_0005, voices_word(5, 2), 0xF000_0000],                    // 7: voices of episode 5, which is not below 5
+    &[0x1000_0005, voices_word(3, 3), 0xF000_0000],                    // 19: three voices
+    &[0x1000_0005, voices_word(3, 2), voices_word(3, 2), 0xF000_0000], // 21: voices of 3 again
+    &[0x1000_0005, 0x2000_0000, 0x3000_0001, 0x3000_0002],             // 9: no end
+    &[0x1000_0005, 0x2000_0000, 0x3000_0001, 0xF000_0000],             // 10: the end says 0 and there is 1
 ];
 
 /// 3 episodes and the links 0-1, 0-2 and 1-2. The path 0 1 2 stands beside the link 0-2.
@@ -46,6 +50,19 @@ const LONG_PAUSES: [u32; 7] = [
     0xF000_0003,
 ];
 
+/// 4 episodes and the links 0-1, 1-2 and 1-3. 3 is a duet and 1 a door.
+const VOICED: [u32; 9] = [
+    0x1000_0004,
+    voices_word(3, 2),
+    voices_word(1, 0),
+    0x2000_0000,
+    0x3000_0001,
+    0x2000_0001,
+    0x3000_0002,
+    0x3000_0003,
+    0xF000_0003,
+];
+
 const LOOP: [u32; 6] = [0x1000_0002, 0x2000_0000, 0x3000_0001, 0x2000_0001, 0x3000_0000, 0xF000_0002];
 
 fn main() -> Result<(), Box<dyn Error>> {
@@ -61,7 +78,7 @@ fn main() -> Result<(), Box<dyn Error>> {
     print!("{}", Report::of(&WHOLE)?);
 
     // The lent form: the caller's buffers, which a refusal leaves as they were.
-    let mut out = vec![0; zohapy::report_words(5)];
+    let mut out = vec![0; zohapy::report_words_with_voices(5)];
     let mut work = vec![0; WORK_WORDS];
     let count = zohapy::fair_copy(&WHOLE, &mut out, &mut work)?;
     print_words("copy", &out[..count]);
@@ -86,10 +103,25 @@ fn main() -> Result<(), Box<dyn Error>> {
         TrimOutcome::Trimmed(count) => print_words("trimmed", &out[..count]),
         answered => panic!("the log has a trimmed copy, not {answered:?}"),
     }
+    // Two threads hold the duet 3, and another passes the door 1. The copies have the voices rising by episode.
+    for Mark { episode, voices } in zohapy::marks(&VOICED)? {
+        println!("voices of {episode}: {voices}");
+    }
+    for Link { from, to, pause } in zohapy::links(&VOICED)? {
+        println!("link {from}-{to} pause {pause}");
+    }
+    print!("{}", Report::of(&VOICED)?);
+    let count = zohapy::fair_copy(&VOICED, &mut out, &mut work)?;
+    print_words("copy", &out[..count]);
+    match zohapy::trimmed_copy(&VOICED, &mut out, &mut work) {
+        TrimOutcome::Trimmed(count) => print_words("trimmed", &out[..count]),
+        answered => panic!("the log has a trimmed copy, not {answered:?}"),
+    }
     for log in REFUSED {
         print_refusal(zohapy::read(log));
     }
-    print_outcome(zohapy::report(&WHOLE, &mut out[..20], &mut work));
+    print_outcome(zohapy::report(&WHOLE, &mut out[..zohapy::report_words(5) - 1], &mut work));
+    print_outcome(zohapy::report(&VOICED, &mut out[..zohapy::report_words(4)], &mut work));
     print_outcome(zohapy::report(&WHOLE, &mut out, &mut work[..WORK_WORDS - 1]));
     print!("{}", Report::of(&LOOP).expect_err("the log has a loop"));
     print_refusal(zohapy::thread(&LOOP, 0));
@@ -100,6 +132,11 @@ fn main() -> Result<(), Box<dyn Error>> {
     }
     print_refusal(zohapy::thread(&[0x4000_0001, 0x5000_0000, 0x6000_0001, 0x7000_0000, 0xF000_0004], 1));
     Ok(())
+}
+
+/// The voices word of an episode and its voices, which have room.
+const fn voices_word(episode: u32, voices: u32) -> u32 {
+    zohapy::voices_word(episode, voices).unwrap()
 }
 
 /// The numbers of words.

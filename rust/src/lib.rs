@@ -5,10 +5,14 @@
 //! pause: [`links`] gives both for each link of a log. In version 0 every link counts. In version 1 a link counts whose least
 //! pause is at most [`LONGEST_PAUSE`]; reports, loops, link counts and trimmed copies are of the links that count.
 //!
+//! Voices words may stand between the head and the first from word. The number of one holds an episode and its voices, 0, 1 or 2:
+//! 2 for a duet, 0 for a door. [`marks`] gives both for each voices word of a log. An episode without one has 1. Where an episode
+//! has c voices, at least c threads of a cover pass it.
+//!
 //! Each call ends, on any log and any buffers, with an answer or one numbered refusal, and what it leaves in every word of the
 //! buffers is fixed:
 //!
-//! - after a refusal 1 to 12 or 18 no buffer has changed;
+//! - after a refusal 1 to 12 or 18 to 21 no buffer has changed;
 //! - otherwise the output begins with the report, the loop or the copy and is unchanged behind it, and the first [`WORK_WORDS`]
 //!   work words are zero, the others unchanged.
 //!
@@ -29,8 +33,8 @@ mod owned;
 
 pub use owned::{Failure, Report};
 
-/// The most bytes that a log has: those of 4,096 groups of one to word each, with head and end.
-pub const LOG_BYTES: usize = 32_776;
+/// The most bytes that a log has: those of 120 voices words and 4,096 groups of one to word each, with head and end.
+pub const LOG_BYTES: usize = 33_256;
 
 /// The version of the library.
 pub const VERSION: &str = env!("CARGO_PKG_VERSION");
@@ -38,17 +42,36 @@ pub const VERSION: &str = env!("CARGO_PKG_VERSION");
 /// The longest pause, in minutes, with which a link counts in version 1.
 pub const LONGEST_PAUSE: u32 = 360;
 
+/// The most episodes of a log with voices words.
+pub const MOST_WITH_VOICES: usize = 120;
+
+/// The most voices of an episode.
+pub const MOST_VOICES: u32 = 2;
+
 /// The work words that a report or a copy needs.
 pub const WORK_WORDS: usize = 16_384;
 
-/// The output words that a report on `episodes` episodes needs.
+/// The output words that a report on `episodes` episodes needs where the log has no voices words. That of 200 episodes, 10,502, is
+/// enough for every log.
 pub const fn report_words(episodes: usize) -> usize {
     2 + 2 * episodes + (episodes + 1) * (episodes + 1) / 4
 }
 
-/// The output words that a fair or a trimmed copy of a log with `to_words` to words needs: as [`read`] counts them, repeats too.
+/// The output words that a report on `episodes` episodes needs where the log has a voices word, whatever that says.
+pub const fn report_words_with_voices(episodes: usize) -> usize {
+    2 + 3 * episodes + 2 * ((episodes + 1) * (episodes + 1) / 4)
+}
+
+/// The output words that a fair or a trimmed copy needs of a log with `to_words` to words and no voices words. To words are as
+/// [`read`] counts them, repeats too.
 pub const fn copy_words(to_words: usize) -> usize {
-    2 + 2 * to_words
+    copy_words_with_voices(to_words, 0)
+}
+
+/// The output words that a fair or a trimmed copy needs of a log with `to_words` to words and `voices_words` voices words. To words
+/// are as [`read`] counts them, repeats too; voices words are those of which [`marks`] gives one each.
+pub const fn copy_words_with_voices(to_words: usize, voices_words: usize) -> usize {
+    2 + 2 * to_words + voices_words
 }
 
 /// The kind of a word: its top 4 bits.
@@ -57,7 +80,7 @@ pub const fn kind(word: u32) -> u32 {
 }
 
 /// The number of a word: its low 28 bits. That of a head holds two figures, its [`head_version`] and its [`head_episodes`]; that of
-/// a to word does too, its [`episode`] and its [`pause`].
+/// a to word does too, its [`episode`] and its [`pause`], and so does that of a voices word, its [`episode`] and its [`voices`].
 pub const fn number(word: u32) -> u32 {
     word & 0x0FFF_FFFF
 }
@@ -99,7 +122,7 @@ pub const fn counts(version: u32, least_pause: u32) -> bool {
     version == 0 || version == 1 && least_pause <= LONGEST_PAUSE
 }
 
-/// The episode of a to word: its bits 0 to 15.
+/// The episode of a to word or of a voices word: its bits 0 to 15.
 pub const fn episode(word: u32) -> u32 {
     word & 0xFFFF
 }
@@ -123,6 +146,35 @@ pub const fn to_word(episode: u32, pause: u32) -> Option<u32> {
     if episode < 1 << 16 && pause < 1 << 12 { Some(0x3000_0000 | pause << 16 | episode) } else { None }
 }
 
+/// The voices of a voices word: its bits 16 to 27.
+pub const fn voices(word: u32) -> u32 {
+    number(word) >> 16
+}
+
+/// The voices word of an episode and its voices; none where the episode is not below 65,536 or the voices not below 4,096. In a log
+/// that passes the voices are at most [`MOST_VOICES`].
+///
+/// ```
+/// use zohapy::{episode, voices, voices_word};
+///
+/// const WORD: u32 = voices_word(7, 2).unwrap();
+/// assert_eq!(WORD, 0x9002_0007);
+/// assert_eq!((episode(WORD), voices(WORD)), (7, 2));
+/// assert_eq!(voices_word(7, 4096), None);
+/// ```
+pub const fn voices_word(episode: u32, voices: u32) -> Option<u32> {
+    if episode < 1 << 16 && voices < 1 << 12 { Some(0x9000_0000 | voices << 16 | episode) } else { None }
+}
+
+/// A mark as a voices word gives it.
+#[derive(Clone, Copy, Debug, PartialEq, Eq, PartialOrd, Ord, Hash)]
+pub struct Mark {
+    /// The marked episode.
+    pub episode: u32,
+    /// How many voices it has.
+    pub voices: u32,
+}
+
 /// A link as a to word gives it.
 #[derive(Clone, Copy, Debug, PartialEq, Eq, PartialOrd, Ord, Hash)]
 pub struct Link {
@@ -137,7 +189,9 @@ pub struct Link {
 /// A refusal: its number and its place.
 #[derive(Clone, Copy, Debug, PartialEq, Eq)]
 pub struct Refusal {
-    /// The question that was answered no.
+    /// The question that was answered no. 1 to 10 and 18 to 21 are of the log's words; 20, 7, 19 and 21 are asked of each voices
+    /// word between head and first from word: whether there are at most [`MOST_WITH_VOICES`] episodes, whether its episode is below
+    /// n, whether its voices are at most [`MOST_VOICES`], and whether no voices word before it is of its episode.
     pub number: u32,
     /// The place, in words from 0. For 11 and 12 it is the words needed, for 13 the loop's length, for 14 [`LOG_BYTES`], and
     /// for 15 the byte count.
@@ -169,7 +223,7 @@ pub enum Outcome {
     Report(usize),
     /// Refusal 13: the output begins with a loop of this many episodes, one word more.
     Loop(usize),
-    /// A refusal 1 to 12 or 18.
+    /// A refusal 1 to 12 or 18 to 21.
     Refused(Refusal),
 }
 
@@ -180,7 +234,7 @@ pub enum TrimOutcome {
     Trimmed(usize),
     /// Refusal 13: the output begins with a loop of this many episodes, one word more.
     Loop(usize),
-    /// A refusal 1 to 12 or 18.
+    /// A refusal 1 to 12 or 18 to 21.
     Refused(Refusal),
 }
 
@@ -241,7 +295,7 @@ mod library {
     }
 }
 
-/// Reads a log: questions 1 to 10, and after 2 question 18: whether the version is 0 or 1.
+/// Reads a log: questions 1 to 10, after 2 question 18: whether the version is 0 or 1, and 19 to 21 of its voices words.
 pub fn read(log: &[u32]) -> Result<Reading, Refusal> {
     // SAFETY: the pointer and the length are those of a slice, and the call reads only its words.
     let answer = unsafe { library::zohapy_read(log.as_ptr(), log.len()) };
@@ -252,8 +306,8 @@ pub fn read(log: &[u32]) -> Result<Reading, Refusal> {
 }
 
 /// The link count of a log, as it is printed: how many different links that count it has, a link being an ordered pair of
-/// episodes. A link that is given again is counted once; pauses matter only for which links count. It asks the questions of
-/// [`read`], so a log with a loop has a link count too.
+/// episodes. A link that is given again is counted once; pauses matter only for which links count, voices not at all. It asks the
+/// questions of [`read`], so a log with a loop has a link count too.
 ///
 /// ```
 /// let log = [0x1000_0002, 0x2000_0000, 0x3000_0001, 0x3000_0001, 0xF000_0002]; // 0-1 twice
@@ -286,14 +340,32 @@ pub fn link_count(log: &[u32]) -> Result<usize, Refusal> {
 pub fn links(log: &[u32]) -> Result<Vec<Link>, Refusal> {
     let mut links = Vec::with_capacity(read(log)?.links);
     let mut from = 0;
-    // The log has passed, so that these are from words and to words, a from word first.
+    // The log has passed, so that these are voices words, then from words and to words, a from word first.
     for &word in &log[1..log.len() - 1] {
         match kind(word) {
             2 => from = number(word),
-            _ => links.push(Link { from, to: episode(word), pause: pause(word) }),
+            3 => links.push(Link { from, to: episode(word), pause: pause(word) }),
+            _ => {}
         }
     }
     Ok(links)
+}
+
+/// The marks of a log in the order in which it gives them, one for each voices word, those that say 1 too; or its refusal by
+/// [`read`].
+///
+/// ```
+/// use zohapy::{Mark, marks};
+///
+/// let log = [0x1000_0005, 0x9002_0003, 0x9000_0001, 0xF000_0000]; // 3 is a duet, 1 a door
+/// assert_eq!(marks(&log)?, [Mark { episode: 3, voices: 2 }, Mark { episode: 1, voices: 0 }]);
+/// # Ok::<(), zohapy::Refusal>(())
+/// ```
+pub fn marks(log: &[u32]) -> Result<Vec<Mark>, Refusal> {
+    read(log)?;
+    // The log has passed, so that its voices words stand behind the head.
+    let words = log[1..].iter().take_while(|word| kind(**word) == 9);
+    Ok(words.map(|word| Mark { episode: episode(*word), voices: voices(*word) }).collect())
 }
 
 /// A call of one of the library's services that write to a lent output.
@@ -302,8 +374,8 @@ fn call(service: library::Lending, log: &[u32], out: &mut [u32], work: &mut [u32
     unsafe { service(log.as_ptr(), log.len(), out.as_mut_ptr(), out.len(), work.as_mut_ptr(), work.len()) }
 }
 
-/// The report on a log, or a loop of it, by the links that count; pauses matter only for which do. For a report lend
-/// [`report_words`] output words and [`WORK_WORDS`] work words.
+/// The report on a log, or a loop of it, by the voices and the links that count; pauses matter only for which do. For a report lend
+/// [`WORK_WORDS`] work words and [`report_words`] output words, or [`report_words_with_voices`] where the log has a voices word.
 pub fn report(log: &[u32], out: &mut [u32], work: &mut [u32]) -> Outcome {
     let answer = call(library::zohapy_report, log, out, work);
     match answer.number {
@@ -313,8 +385,9 @@ pub fn report(log: &[u32], out: &mut [u32], work: &mut [u32]) -> Outcome {
     }
 }
 
-/// The fair copy of a log: its version, and each link once, whether it counts or not, with its least pause, its to words rising
-/// by episode. The answer is its count of words. Lend [`copy_words`] output words and [`WORK_WORDS`] work words.
+/// The fair copy of a log: its version, a voices word for each episode with other voices than 1, rising by episode, and each link
+/// once, whether it counts or not, with its least pause, its to words rising by episode. The answer is its count of words. Lend
+/// [`copy_words_with_voices`] output words and [`WORK_WORDS`] work words.
 pub fn fair_copy(log: &[u32], out: &mut [u32], work: &mut [u32]) -> Result<usize, Refusal> {
     let answer = call(library::zohapy_fair_copy, log, out, work);
     match answer.number {
@@ -323,8 +396,9 @@ pub fn fair_copy(log: &[u32], out: &mut [u32], work: &mut [u32]) -> Result<usize
     }
 }
 
-/// The trimmed copy of a log, or a loop of it: of the links that count only those A-B for which no other path leads from A to B,
-/// in version 0 and with pause 0. Lend [`copy_words`] output words and [`WORK_WORDS`] work words.
+/// The trimmed copy of a log, or a loop of it: the voices words of the fair copy, and of the links that count only those A-B for
+/// which no other path leads from A to B, in version 0 and with pause 0. Lend [`copy_words_with_voices`] output words and
+/// [`WORK_WORDS`] work words.
 pub fn trimmed_copy(log: &[u32], out: &mut [u32], work: &mut [u32]) -> TrimOutcome {
     let answer = call(library::zohapy_trimmed_copy, log, out, work);
     match answer.number {

@@ -2,7 +2,9 @@
 
 use std::fmt;
 
-use crate::{Outcome, Refusal, WORK_WORDS, link_count, number, read, report, report_words, thread};
+use crate::{
+    Outcome, Refusal, WORK_WORDS, kind, link_count, marks, number, read, report, report_words, report_words_with_voices, thread,
+};
 
 /// The report on a log. It is displayed as the lines that the program prints.
 #[derive(Clone, Debug, PartialEq, Eq)]
@@ -11,11 +13,12 @@ pub struct Report {
     pub episodes: usize,
     /// How many different links that count the log has: its [`link_count`].
     pub links: usize,
-    /// The fewest sleepers: how many threads there are, and how many members the apart set has.
+    /// The fewest sleepers: how many threads there are, and how many voices the members of the apart set have together.
     pub width: usize,
-    /// The furthest apart set, rising.
+    /// The furthest of the heaviest apart sets, rising. Each member has a voice at least.
     pub apart: Vec<u32>,
-    /// The threads of a smallest cover. Thread i holds member i of the apart set and no other member.
+    /// The threads of a smallest cover. Each holds one member of the apart set. They stand in the members' order: first all that
+    /// hold member 0, as many as it has voices, then all that hold member 1, and so on.
     pub threads: Vec<Vec<u32>>,
 }
 
@@ -33,13 +36,15 @@ impl Report {
     pub fn of(log: &[u32]) -> Result<Report, Failure> {
         let episodes = read(log)?.episodes;
         let links = link_count(log)?;
-        let mut out = vec![0; report_words(episodes)];
+        let need = if marks(log)?.is_empty() { report_words(episodes) } else { report_words_with_voices(episodes) };
+        let mut out = vec![0; need];
         match report(log, &mut out, &mut vec![0; WORK_WORDS]) {
             Outcome::Report(count) => {
                 let words = &out[..count];
                 let width = number(words[0]) as usize;
+                let apart = words.iter().filter(|word| kind(**word) == 5).map(|word| number(*word)).collect();
                 let threads = (0..width).map(|i| thread(words, i).map(numbers)).collect::<Result<_, _>>()?;
-                Ok(Report { episodes, links, width, apart: numbers(&words[1..=width]), threads })
+                Ok(Report { episodes, links, width, apart, threads })
             }
             Outcome::Loop(length) => Err(Failure::Loop(numbers(&out[1..=length]))),
             Outcome::Refused(refusal) => Err(Failure::Refused(refusal)),

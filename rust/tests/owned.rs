@@ -70,9 +70,9 @@ fn the_lowest_byte_is_first() {
 
 #[test]
 fn bytes_are_refused_by_14_then_15() {
-    assert_eq!(words_from_bytes(&vec![0; LOG_BYTES]).map(|words| words.len()), Ok(8194));
-    assert_eq!(words_from_bytes(&vec![0; LOG_BYTES + 1]), Err(Refusal { number: 14, place: 32776 }));
-    assert_eq!(words_from_bytes(&vec![0; LOG_BYTES + 4]), Err(Refusal { number: 14, place: 32776 }));
-    assert_eq!(words_from_bytes(&vec![0; LOG_BYTES - 1]), Err(Refusal { number: 15, place: 32775 }));
+    assert_eq!(words_from_bytes(&vec![0; LOG_BYTES]).map(|words| words.len()), Ok(8314));
+    assert_eq!(words_from_bytes(&vec![0; LOG_BYTES + 1]), Err(Refusal { number: 14, place: 33256 }));
+    assert_eq!(words_from_bytes(&vec![0; LOG_BYTES + 4]), Err(Refusal { number: 14, place: 33256 }));
+    assert_eq!(words_from_bytes(&vec![0; LOG_BYTES - 1]), Err(Refusal { number: 15, place: 33255 }));
     assert_eq!(words_from_bytes(&[0; 5]), Err(Refusal { number: 15, place: 5 }));
 }

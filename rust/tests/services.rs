@@ -1,4 +1,5 @@
-//! The six services on lent buffers: the small logs worked through, every refusal, and what is left in the buffers.
+//! The six services on lent buffers: the small logs worked through, the refusals of logs without voices words, and what is left in the
+//! buffers.
 
 mod common;
 

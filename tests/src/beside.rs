@@ -2,10 +2,12 @@
 
 use crate::counts::{Service, grouped, row};
 use crate::lent::{Lent, WATCHED};
+use crate::model;
 use crate::object::Object;
+use crate::reference::parts;
 use crate::services::header::{self, Counting, Lending, Reading, Threading};
 use crate::services::{Answer, Compared, Door, ReadAnswer, Services, ThreadAnswer, lending};
-use crate::words::{END, HEAD, head_word, kind, version, word};
+use crate::words::{END, HEAD, VOICES, head_word, kind, version, voices_word, word};
 use std::collections::HashSet;
 use std::fmt::Debug;
 use std::hash::{DefaultHasher, Hash, Hasher};
@@ -22,13 +24,24 @@ pub struct Older {
     thread: Threading,
     /// Whether heads have a version there.
     versions: bool,
+    /// Whether logs have voices words there.
+    voices: bool,
+}
+
+/// The number that a build's reading gives for these words.
+fn number_of(read: Reading, log: &[u32]) -> u32 {
+    // SAFETY: the pointer and the length are those of a slice.
+    unsafe { read(log.as_ptr(), log.len()) }.number
 }
 
 /// Whether a build reads the version in a head: it refuses version 2 by question 18.
 fn has_versions(read: Reading) -> bool {
-    let log = [head_word(2, 0), word(END, 0)];
-    // SAFETY: the pointer and the length are those of an array.
-    unsafe { read(log.as_ptr(), log.len()) }.number == 18
+    number_of(read, &[head_word(2, 0), word(END, 0)]) == 18
+}
+
+/// Whether a build reads voices words: it does not refuse one.
+fn has_voices(read: Reading) -> bool {
+    number_of(read, &[head_word(0, 1), voices_word(0, 2), word(END, 0)]) == 0
 }
 
 impl Older {
@@ -46,6 +59,7 @@ impl Older {
                 trimmed_copy: object.function(c"zohapy_trimmed_copy")?,
                 thread: object.function(c"zohapy_thread")?,
                 versions: has_versions(read),
+                voices: has_voices(read),
             })
         }
     }
@@ -60,6 +74,21 @@ impl Older {
             trimmed_copy: header::zohapy_trimmed_copy,
             thread: header::zohapy_thread,
             versions: has_versions(header::zohapy_read),
+            voices: has_voices(header::zohapy_read),
+        }
+    }
+
+    /// Those of the model.
+    pub fn model() -> Older {
+        Older {
+            read: model::header::read,
+            links: Some(model::header::links),
+            report: model::header::report,
+            fair_copy: model::header::fair_copy,
+            trimmed_copy: model::header::trimmed_copy,
+            thread: model::header::thread,
+            versions: true,
+            voices: true,
         }
     }
 
@@ -73,10 +102,22 @@ impl Older {
         self.versions
     }
 
-    /// Whether the log means the same to the build: it has versions too, or questions 1 and 2 refuse the log, or it is of
-    /// version 0.
+    /// Whether the build has voices. Where it has none, calls on logs with a voices word behind the head are not compared, and
+    /// none on reports with fewer apart words than threads.
+    pub fn has_voices(&self) -> bool {
+        self.voices
+    }
+
+    /// Whether the log means the same to the build: questions 1 and 2 refuse it; or the build has versions too, or it is of version
+    /// 0, and the build has voices too, or there is none behind the head. A voices word behind any other word is refused anyway.
     fn reads_as_now(&self, log: &[u32]) -> bool {
-        self.versions || log.len() < 2 || kind(log[0]) != HEAD || version(log[0]) == 0
+        let refused = log.len() < 2 || kind(log[0]) != HEAD;
+        refused || ((self.versions || version(log[0]) == 0) && (self.voices || log.len() == 2 || kind(log[1]) != VOICES))
+    }
+
+    /// Whether the words are a report to the build where they are one now.
+    fn takes_report(&self, words: &[u32]) -> bool {
+        self.voices || parts(words).map_or(true, |parts| parts.apart == parts.count())
     }
 }
 
@@ -184,6 +225,10 @@ impl<S: Services> Services for Beside<S> {
     fn thread(&mut self, door: Door, report: &mut Lent, i: usize) -> ThreadAnswer {
         self.log.keep(report);
         let new = self.newer.thread(door, report, i);
+        if !self.older.takes_report(report.before()) {
+            self.compared = Compared::Not;
+            return new;
+        }
         let kept = self.log.lent();
         // SAFETY: the pointer and the length are those of a slice.
         let old = unsafe { (self.older.thread)(kept.as_ptr(), kept.len(), i) };
@@ -292,8 +337,9 @@ impl Tally {
 mod tests {
     use super::*;
     use crate::lent::Filling;
+    use crate::model::Model;
     use crate::random::Random;
-    use crate::services::Library;
+    use crate::words::report;
 
     const ANSWER: Answer = Answer { number: 0, value: 3 };
 
@@ -350,10 +396,10 @@ mod tests {
 
     #[test]
     fn a_build_without_the_link_count_is_taken() {
-        let without = Older { links: None, ..Older::linked() };
-        assert!(Older::linked().counts_links() && !without.counts_links());
-        for (older, compared) in [(Older::linked(), true), (without, false)] {
-            let mut beside = Beside::new(Library, older);
+        let without = Older { links: None, ..Older::model() };
+        assert!(Older::model().counts_links() && !without.counts_links());
+        for (older, compared) in [(Older::model(), true), (without, false)] {
+            let mut beside = Beside::new(Model, older);
             let mut lent = Lent::new();
             lent.fill(10, &Filling::new(), &mut Random::new(1));
             beside.links(Door::C, &mut lent);
@@ -365,17 +411,17 @@ mod tests {
 
     #[test]
     fn a_build_without_versions_is_taken() {
-        let without = Older { versions: false, ..Older::linked() };
+        let without = Older { versions: false, ..Older::model() };
         let logs = [(0x1000_0000, true), (0x1100_0000, false), (0x1200_0000, false), (0x2200_0000, true)];
         for (head, compared) in logs {
-            for (older, compared) in [(Older::linked(), true), (without, compared)] {
-                let (mut beside, mut log, filling) = (Beside::new(Library, older), Lent::new(), Filling::new());
+            for (older, compared) in [(Older::model(), true), (without, compared)] {
+                let (mut beside, mut log, filling) = (Beside::new(Model, older), Lent::new(), Filling::new());
                 let random = &mut Random::new(1);
                 let (mut out, mut work) = (Lent::new(), Lent::new());
                 log.set(&[head, 0xF000_0000], &filling, random);
                 out.fill(2, &filling, random);
                 work.fill(16_384, &filling, random);
-                let went = |beside: &mut Beside<Library>| matches!(beside.compared(), Compared::Same);
+                let went = |beside: &mut Beside<Model>| matches!(beside.compared(), Compared::Same);
                 beside.read(Door::C, &mut log);
                 assert_eq!(went(&mut beside), compared);
                 beside.links(Door::C, &mut log);
@@ -384,6 +430,34 @@ mod tests {
                 assert_eq!(went(&mut beside), compared);
                 beside.thread(Door::C, &mut log, 0);
                 assert!(went(&mut beside));
+            }
+        }
+    }
+
+    #[test]
+    fn a_build_without_voices_is_taken() {
+        let without = Older { voices: false, ..Older::model() };
+        assert!(has_voices(model::header::read) && Older::model().has_voices() && !without.has_voices());
+        let voices = voices_word(0, 2);
+        let logs: [(&[u32], bool); 4] = [
+            (&[0x1000_0001, voices, 0xF000_0000], false),
+            (&[0x1000_0001, voices], true),
+            (&[0x2000_0001, voices, 0xF000_0000], true),
+            (&[0x1000_0001, 0x2000_0000, voices, 0xF000_0000], true),
+        ];
+        let reports = [(report(&[0], &[vec![0], vec![0]]), false), (report(&[0], &[vec![0]]), true), (vec![0x4000_0002], true)];
+        for (older, always) in [(Older::model(), true), (without, false)] {
+            let (mut beside, mut lent, filling, random) =
+                (Beside::new(Model, older), Lent::new(), Filling::new(), &mut Random::new(1));
+            for (log, compared) in logs {
+                lent.set(log, &filling, random);
+                beside.read(Door::C, &mut lent);
+                assert_eq!(matches!(beside.compared(), Compared::Same), always || compared, "{log:X?}");
+            }
+            for (words, compared) in &reports {
+                lent.set(words, &filling, random);
+                beside.thread(Door::C, &mut lent, 1);
+                assert_eq!(matches!(beside.compared(), Compared::Same), always || *compared, "{words:X?}");
             }
         }
     }

@@ -6,7 +6,7 @@ use crate::checks::{Check, Checked, Disagreement, Found};
 use crate::counts::{Asked, Counts, OutLength, Service, Shape, WorkLength};
 use crate::lent::{Filling, LONGEST, Lent};
 use crate::random::Random;
-use crate::reference::{Graph, Parts, Passed, Refusal, Subject, WORK, copy_need, lent, report_need};
+use crate::reference::{Graph, Parts, Passed, Reading, Refusal, Subject, WORK, copy_need, lent, report_need};
 use crate::services::{Answer, Compared, Door, ReadAnswer, Services, ThreadAnswer};
 
 pub struct Caller<S> {
@@ -116,15 +116,17 @@ impl<S: Services> Caller<S> {
             self.counts.shape(shape, &subject.words);
         }
         match subject.reading {
-            Ok((n, _)) => self.counts.size(n),
-            Err(Refusal { number: 7, place }) => self.counts.seventh(&subject.words, place),
-            Err(_) => {}
+            Ok(reading) => self.counts.size(reading.n),
+            Err(Refusal { number, place }) => self.counts.refused(&subject.words, number, place),
         }
         if let Some(passed) = &subject.passed {
             for &pauses in passed.pauses() {
                 self.counts.pauses(pauses);
             }
             self.counts.long_pauses(passed.long_pauses(&subject.words));
+            for &voiced in passed.voiced() {
+                self.counts.voiced(voiced);
+            }
         }
     }
 
@@ -153,7 +155,7 @@ impl<S: Services> Caller<S> {
         }
     }
 
-    /// After a refusal 1 to 12 or 18: no buffer has changed.
+    /// After a refusal 1 to 12 or 18 to 21: no buffer has changed.
     fn ask_refused(&self, answer: Answer, refusal: Refusal, found: &mut Found) {
         ask_refusal(answer.number, answer.value, refusal, found);
         found.ask(Check::OutKept, self.out.lent() == self.out.before(), || first_changed("output", &self.out, 0));
@@ -202,10 +204,10 @@ impl<S: Services> Caller<S> {
                 ask_refusal(number, place, refusal, &mut found);
                 found.ask(Check::Values, (episodes, links) == (0, 0), || format!("refused with {episodes} and {links}"));
             }
-            Ok((n, t)) => {
+            Ok(due) => {
                 found.ask(Check::Number, number == 0, || format!("refused {number} at {place}, but it passes"));
-                found.ask(Check::Values, (place, episodes, links) == (0, n, t), || {
-                    format!("place {place}, {episodes} episodes, {links} links instead of 0, {n}, {t}")
+                found.ask(Check::Values, (place, episodes, links) == (0, due.n, due.links), || {
+                    format!("place {place}, {episodes} episodes, {links} links instead of 0, {}, {}", due.n, due.links)
                 });
             }
         }
@@ -255,7 +257,7 @@ impl<S: Services> Caller<S> {
         let mut found = self.beside(Service::Report, answer.number);
         if !self.bare {
             self.ask_kept(&mut found);
-            match passed(subject, |n, _| report_need(n), lengths) {
+            match passed(subject, |read| report_need(read.n, read.voices), lengths) {
                 Err(refusal) => self.ask_refused(answer, refusal, &mut found),
                 Ok(passed) => match passed.furthest() {
                     None => self.ask_loop(answer, &passed.graph, &mut found),
@@ -322,7 +324,7 @@ impl<S: Services> Caller<S> {
         let mut found = self.beside(Service::FairCopy, answer.number);
         if !self.bare {
             self.ask_kept(&mut found);
-            match passed(subject, |_, t| copy_need(t), lengths) {
+            match passed(subject, |read| copy_need(read.links, read.voices), lengths) {
                 Err(refusal) => self.ask_refused(answer, refusal, &mut found),
                 Ok(passed) => self.ask_copy(Check::FairCopy, answer, passed.fair_copy(), &mut found),
             }
@@ -343,7 +345,7 @@ impl<S: Services> Caller<S> {
         let mut found = self.beside(Service::TrimmedCopy, answer.number);
         if !self.bare {
             self.ask_kept(&mut found);
-            match passed(subject, |_, t| copy_need(t), lengths) {
+            match passed(subject, |read| copy_need(read.links, read.voices), lengths) {
                 Err(refusal) => self.ask_refused(answer, refusal, &mut found),
                 Ok(passed) => match passed.trimmed_copy() {
                     None => self.ask_loop(answer, &passed.graph, &mut found),
@@ -414,10 +416,9 @@ impl<S: Services> Caller<S> {
     }
 }
 
-/// Questions 1 to 12 and 18, for a call that needs so many output words for n episodes and t to words.
-fn passed(subject: &Subject, need: fn(usize, usize) -> usize, lengths: Lengths) -> Result<&Passed, Refusal> {
-    let (n, t) = subject.reading?;
-    lent(need(n, t), lengths.out, lengths.work)?;
+/// Questions 1 to 12 and 18 to 21, for a call that needs so many output words for what the log has.
+fn passed(subject: &Subject, need: fn(Reading) -> usize, lengths: Lengths) -> Result<&Passed, Refusal> {
+    lent(need(subject.reading?), lengths.out, lengths.work)?;
     Ok(subject.passed.as_ref().expect("a log that passes has a graph"))
 }
 

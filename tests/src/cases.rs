@@ -7,7 +7,7 @@ use crate::random::Random;
 use crate::reference::{Subject, WORK, parts};
 use crate::services::{ReadAnswer, Services};
 use crate::shapes;
-use crate::words::{LOOP, Noted, STEP, TO, hex, in_version, log, older, word};
+use crate::words::{LOOP, Noted, STEP, TO, hex, in_version, log, older, with_voices, word};
 
 /// Words as they are written: hexadecimal, spaces between them.
 fn words(text: &str) -> Vec<u32> {
@@ -45,12 +45,17 @@ const LONG_CLOSES: &str = "11000003 20000000 30000001 20000001 30000002 20000002
 /// Of version 1: 0-1, 1-2 with 361 minutes, and 0-2.
 const LONG_BESIDE: &str = "11000003 20000000 30000001 20000001 31690002 20000000 30000002 F0000003";
 
+/// Voices 2, 0 and 1 for 2, 0 and 1, in this order, and no links.
+const SPOKEN: &str = "10000003 90020002 90000000 90010001 F0000000";
+/// 0-1 and 1-2, where 1 is a door and the others duets.
+const DOOR_BETWEEN: &str = "10000003 90020000 90000001 90020002 20000000 30000001 20000001 30000002 F0000002";
+
 /// The reports on 0-1, and on two episodes without a link.
 const JOINED: &str = "40000001 50000001 60000002 70000000 70000001 F0000005";
 const PARTED: &str = "40000002 50000000 50000001 60000001 70000000 60000001 70000001 F0000007";
 
 /// Logs with their reports. Where the cover is free, all that there can be are listed.
-const REPORTS: [(&str, &[&str]); 29] = [
+const REPORTS: [(&str, &[&str]); 46] = [
     (EMPTY, &["40000000 F0000001"]),
     ("10000001 F0000000", &["40000001 50000000 60000001 70000000 F0000004"]),
     (WHOLE, &[WHOLE_REPORT]),
@@ -124,10 +129,97 @@ const REPORTS: [(&str, &[&str]); 29] = [
     ),
     ("11000000 F0000000", &["40000000 F0000001"]),
     ("11000001 F0000000", &["40000001 50000000 60000001 70000000 F0000004"]),
+    // One episode: a door, one voice that is said, a duet.
+    ("10000001 90000000 F0000000", &["40000000 F0000001"]),
+    ("10000001 90010000 F0000000", &["40000001 50000000 60000001 70000000 F0000004"]),
+    ("10000001 90020000 F0000000", &["40000002 50000000 60000001 70000000 60000001 70000000 F0000006"]),
+    // 0-1 with voices 2 and 1, 1 and 2, 0 and 2, 2 and 0.
+    (
+        "10000002 90020000 20000000 30000001 F0000001",
+        &[
+            "40000002 50000000 60000001 70000000 60000002 70000000 70000001 F0000007",
+            "40000002 50000000 60000002 70000000 70000001 60000001 70000000 F0000007",
+            "40000002 50000000 60000002 70000000 70000001 60000002 70000000 70000001 F0000008",
+        ],
+    ),
+    (
+        "10000002 90020001 20000000 30000001 F0000001",
+        &[
+            "40000002 50000001 60000001 70000001 60000002 70000000 70000001 F0000007",
+            "40000002 50000001 60000002 70000000 70000001 60000001 70000001 F0000007",
+            "40000002 50000001 60000002 70000000 70000001 60000002 70000000 70000001 F0000008",
+        ],
+    ),
+    (
+        "10000002 90000000 90020001 20000000 30000001 F0000001",
+        &[
+            "40000002 50000001 60000001 70000001 60000001 70000001 F0000006",
+            "40000002 50000001 60000001 70000001 60000002 70000000 70000001 F0000007",
+            "40000002 50000001 60000002 70000000 70000001 60000001 70000001 F0000007",
+            "40000002 50000001 60000002 70000000 70000001 60000002 70000000 70000001 F0000008",
+        ],
+    ),
+    (
+        "10000002 90000001 90020000 20000000 30000001 F0000001",
+        &[
+            "40000002 50000000 60000001 70000000 60000001 70000000 F0000006",
+            "40000002 50000000 60000001 70000000 60000002 70000000 70000001 F0000007",
+            "40000002 50000000 60000002 70000000 70000001 60000001 70000000 F0000007",
+            "40000002 50000000 60000002 70000000 70000001 60000002 70000000 70000001 F0000008",
+        ],
+    ),
+    // Both duets: 1 is further than 0. Both doors: no thread. One voice each, said in either order.
+    (
+        "10000002 90020000 90020001 20000000 30000001 F0000001",
+        &["40000002 50000001 60000002 70000000 70000001 60000002 70000000 70000001 F0000008"],
+    ),
+    ("10000002 90000000 90000001 20000000 30000001 F0000001", &["40000000 F0000001"]),
+    ("10000002 90010000 90010001 20000000 30000001 F0000001", &[JOINED]),
+    ("10000002 90010001 90010000 20000000 30000001 F0000001", &[JOINED]),
+    // 0 is not furthest, but heaviest; then 1 and 2, as heavy as it, are further.
+    (
+        "10000003 90020000 20000000 30000001 20000000 30000002 F0000002",
+        &["40000002 50000001 50000002 60000002 70000000 70000001 60000002 70000000 70000002 F0000009"],
+    ),
+    // A thread passes a door; none has to.
+    (DOOR_BETWEEN, &["40000002 50000002 60000003 70000000 70000001 70000002 60000003 70000000 70000001 70000002 F000000A"]),
+    (SPOKEN, &["40000003 50000001 50000002 60000001 70000001 60000001 70000002 60000001 70000002 F0000009"]),
+    // Version 1: a link that does not count parts two duets.
+    (
+        "11000002 90020001 90020000 20000000 31690001 F0000001",
+        &["40000004 50000000 50000001 60000001 70000000 60000001 70000000 60000001 70000001 60000001 70000001 F000000B"],
+    ),
+    // Doors alone.
+    ("10000003 90000000 90000001 90000002 20000000 30000001 20000001 30000002 F0000002", &["40000000 F0000001"]),
+    ("11000001 90000000 F0000000", &["40000000 F0000001"]),
+];
+
+/// Logs with voices, their widths and their apart sets.
+const WIDTHS: [(&str, usize, &[usize]); 8] = [
+    // Two duets with links to three others: the heaviest set has fewer members than another.
+    ("10000005 90020001 90020000 20000000 30000002 30000003 30000004 20000001 30000002 30000003 30000004 F0000006", 4, &[0, 1]),
+    // With one more episode behind them, the other set is as heavy, and further.
+    (
+        "10000006 90020001 90020000 20000000 30000002 30000003 30000004 30000005 20000001 30000002 30000003 30000004 30000005 \
+         F0000008",
+        4,
+        &[2, 3, 4, 5],
+    ),
+    // The same behind a door, which is passed but not covered.
+    ("10000004 90000001 20000000 30000001 20000001 30000002 30000003 F0000003", 2, &[2, 3]),
+    // A door beside the whole example.
+    ("10000006 90000005 20000000 30000001 20000002 30000003 F0000002", 3, &[1, 3, 4]),
+    // The whole example with a duet for 0, 2 and 4: 1 and 3 are further, but not so heavy.
+    ("10000005 90020004 90020002 90020000 20000000 30000001 20000002 30000003 F0000002", 6, &[0, 2, 4]),
+    // With duets for 1 and 3 too they are as heavy.
+    ("10000005 90020004 90020002 90020000 90020001 90020003 20000000 30000001 20000002 30000003 F0000002", 6, &[1, 3, 4]),
+    // The diamond: a duet for 0; doors for 1 and 2.
+    ("10000004 90020000 20000000 30000001 30000002 20000001 30000003 20000002 30000003 F0000004", 2, &[1, 2]),
+    ("10000004 90000001 90000002 20000000 30000001 30000002 20000001 30000003 20000002 30000003 F0000004", 1, &[3]),
 ];
 
 /// Logs with the loops that they can show.
-const LOOPS: [(&str, &[&str]); 13] = [
+const LOOPS: [(&str, &[&str]); 16] = [
     (AROUND, &["80000002 70000000 70000001"]),
     (ITSELF, &["80000001 70000000"]),
     (AROUND_PAUSED, &["80000002 70000000 70000001"]),
@@ -145,12 +237,16 @@ const LOOPS: [(&str, &[&str]); 13] = [
     ("11000002 20000000 31680001 20000001 31680000 F0000002", &["80000002 70000000 70000001"]),
     ("11000001 20000000 31680000 F0000001", &["80000001 70000000"]),
     ("11000001 20000000 31900000 30C80000 F0000002", &["80000001 70000000"]),
+    // Loops of doors, of duets, and of a door alone.
+    ("10000002 90000000 90000001 20000000 30000001 20000001 30000000 F0000002", &["80000002 70000000 70000001"]),
+    ("10000002 90020001 90020000 20000000 30000001 20000001 30000000 F0000002", &["80000002 70000000 70000001"]),
+    ("10000002 90000001 20000001 30000001 F0000001", &["80000001 70000001"]),
     // 2-2 does not count, 0-1 and 1-0 do.
     ("11000003 20000002 31690002 20000001 30000000 20000000 30000001 F0000003", &["80000002 70000000 70000001"]),
 ];
 
 /// Logs that are refused, with number and place. Some of them earn more than one refusal.
-const REFUSALS: [(&str, u32, usize); 70] = [
+const REFUSALS: [(&str, u32, usize); 109] = [
     ("", 1, 0),
     ("10000005", 1, 0),
     ("F0000000 F0000000", 2, 0),
@@ -226,10 +322,53 @@ const REFUSALS: [(&str, u32, usize); 70] = [
     ("10000003 30010009 F0000000", 5, 1),
     ("10000003 20010000 F0000000", 6, 1),
     ("10000003 20000000 30010003 20010000 30000001 F0000002", 7, 2),
+    // Voices words: 20, 7, 19 and 21, in this order.
+    ("10000079 90010000 F0000000", 20, 1),
+    ("110000C8 90020000 F0000000", 20, 1),
+    ("10000079 9FFF0079 F0000000", 20, 1),
+    ("10000079 900100C8 90010000 F0000000", 20, 1),
+    ("10000003 90010003 F0000000", 7, 1),
+    ("10000000 90010000 F0000000", 7, 1),
+    ("10000003 90030003 F0000000", 7, 1),
+    ("10000078 90000078 F0000000", 7, 1),
+    ("10000003 90010100 F0000000", 7, 1),
+    ("10000003 90008001 F0000000", 7, 1),
+    ("10000003 90030000 F0000000", 19, 1),
+    ("10000003 90040000 F0000000", 19, 1),
+    ("10000003 98000002 F0000000", 19, 1),
+    ("10000003 9FFF0000 F0000000", 19, 1),
+    ("10000003 90020001 90030001 F0000000", 19, 2),
+    ("10000003 90010001 90010001 F0000000", 21, 2),
+    ("10000003 90010001 90000001 F0000000", 21, 2),
+    ("10000003 90000001 90000002 90000000 90000001 F0000000", 21, 4),
+    ("10000003 90020001 90000003 90020001 F0000000", 7, 2),
+    ("10000003 90000000 90000000 90030001 F0000000", 21, 2),
+    // They stand between head and first group.
+    ("10000003 20000000 30000001 90000000 F0000001", 4, 3),
+    ("10000003 20000000 30000001 90000000 20000001 30000002 F0000002", 4, 3),
+    ("10000003 90000000 20000000 30000001 90000001 F0000001", 4, 4),
+    ("10000079 20000000 30000001 90000000 F0000001", 4, 3),
+    ("10000003 20000000 30000001 9FFFFFFF F0000001", 4, 3),
+    ("10000003 20000000 90000000 30000001 F0000001", 6, 1),
+    ("10000003 90000000 30000001 F0000001", 5, 2),
+    ("10000003 90000000 40000000 F0000000", 4, 2),
+    ("10000003 80000000 F0000000", 4, 1),
+    ("10000003 A0000000 F0000000", 4, 1),
+    ("10000003 90000000", 9, 1),
+    ("10000003 90000000 90010001", 9, 2),
+    ("10000079 90000000", 9, 1),
+    // They are no to words.
+    ("10000003 90000000 F0000001", 10, 2),
+    ("10000003 90000000 20000000 30000001 F0000002", 10, 4),
+    // Questions of the head come before.
+    ("120000C9 90030000 F0000000", 18, 0),
+    ("100000C9 90000000 F0000000", 3, 0),
+    ("90000000 90000000 F0000000", 2, 0),
+    ("90000000", 1, 0),
 ];
 
 /// Logs with their counts of to words and their link counts.
-const COUNTS: [(&str, usize, usize); 39] = [
+const COUNTS: [(&str, usize, usize); 42] = [
     (EMPTY, 0, 0),
     ("10000001 F0000000", 0, 0),
     (ALONE, 0, 0),
@@ -281,6 +420,10 @@ const COUNTS: [(&str, usize, usize); 39] = [
     (LONG_BESIDE, 3, 2),
     ("11000002 20000000 3FFF0001 20000001 30070000 F0000002", 2, 1),
     ("11000001 20000000 31690000 F0000001", 1, 0),
+    // Voices words are no links, and links of doors count.
+    (SPOKEN, 0, 0),
+    (DOOR_BETWEEN, 2, 2),
+    ("10000002 90000000 90000001 20000000 30000001 30000001 F0000002", 2, 1),
     // In version 0 all do.
     ("10000002 20000000 31690001 F0000001", 1, 1),
     ("10000002 20000000 31900001 20000000 31690001 F0000002", 2, 1),
@@ -310,7 +453,7 @@ const UNCOUNTED: [(&str, u32, usize); 17] = [
 ];
 
 /// Logs with their fair copies. The first ones are older logs, with older copies.
-const COPIES: [(&str, &str); 33] = [
+const COPIES: [(&str, &str); 40] = [
     (EMPTY, EMPTY),
     (ALONE, ALONE),
     (WHOLE, WHOLE),
@@ -366,10 +509,21 @@ const COPIES: [(&str, &str); 33] = [
         "11000003 20000001 3FFF0002 20000000 31900002 30050001 F0000003",
         "11000003 20000000 30050001 31900002 20000001 3FFF0002 F0000003",
     ),
+    // Voices other than 1, rising by episode, behind the head.
+    (SPOKEN, "10000003 90000000 90020002 F0000000"),
+    ("10000003 90010002 90010000 F0000000", "10000003 F0000000"),
+    ("11000002 90020001 90000000 F0000000", "11000002 90000000 90020001 F0000000"),
+    ("10000003 90000002 90000001 90000000 F0000000", "10000003 90000000 90000001 90000002 F0000000"),
+    (DOOR_BETWEEN, DOOR_BETWEEN),
+    (
+        "10000003 90010001 90020000 20000001 30050002 30020002 20000000 30010001 F0000003",
+        "10000003 90020000 20000000 30010001 20000001 30020002 F0000002",
+    ),
+    ("10000002 90000001 20000001 30000001 20000001 30000001 F0000002", "10000002 90000001 20000001 30000001 F0000001"),
 ];
 
 /// Logs with their trimmed copies.
-const TRIMMED: [(&str, &str); 32] = [
+const TRIMMED: [(&str, &str); 37] = [
     (EMPTY, EMPTY),
     (ALONE, ALONE),
     (WHOLE, WHOLE),
@@ -430,6 +584,18 @@ const TRIMMED: [(&str, &str); 32] = [
         "10000003 20000000 30000001 20000001 30000002 F0000002",
     ),
     ("11000003 20000000 31690002 30000001 20000001 30000002 F0000003", "10000003 20000000 30000001 20000001 30000002 F0000002"),
+    // Voices as in the fair copy, in version 0; a path over a door leads round a link too.
+    (SPOKEN, "10000003 90000000 90020002 F0000000"),
+    ("11000002 90020001 90000000 20000000 31690001 F0000001", "10000002 90000000 90020001 F0000000"),
+    (DOOR_BETWEEN, DOOR_BETWEEN),
+    (
+        "10000003 90000001 90010000 20000000 30000001 30000002 20000001 30000002 F0000003",
+        "10000003 90000001 20000000 30000001 20000001 30000002 F0000002",
+    ),
+    (
+        "10000003 90000001 90000000 90000002 20000000 30000001 30000002 20000001 30000002 F0000003",
+        "10000003 90000000 90000001 90000002 20000000 30000001 20000001 30000002 F0000002",
+    ),
 ];
 
 /// Logs that need so many words for their trimmed copy, lent exactly these, and the loops that they show.
@@ -440,7 +606,7 @@ const FITTING_LOOPS: [(&str, usize, &str); 3] = [
 ];
 
 /// Words, a number i, and what asking for thread i gives.
-const THREADS: [(&str, usize, Result<&str, u32>); 15] = [
+const THREADS: [(&str, usize, Result<&str, u32>); 27] = [
     (WHOLE_REPORT, 0, Ok("70000000 70000001")),
     (WHOLE_REPORT, 1, Ok("70000002 70000003")),
     (WHOLE_REPORT, 2, Ok("70000004")),
@@ -456,6 +622,20 @@ const THREADS: [(&str, usize, Result<&str, u32>); 15] = [
     ("80000001 70000000", 0, Err(16)),
     ("40000002 50000009 50000009 60000001 7FFFFFFF 60000002 70000001 70000001 F0000008", 1, Ok("70000001 70000001")),
     ("40000002 50000000 50000001 60000003 70000000 70000001 70000002 F0000007", 0, Err(16)),
+    // Fewer apart words than threads, none, and one more.
+    ("40000002 50000000 60000001 70000000 60000001 70000001 F0000006", 0, Ok("70000000")),
+    ("40000002 50000000 60000001 70000000 60000001 70000001 F0000006", 1, Ok("70000001")),
+    ("40000002 50000000 60000001 70000000 60000001 70000001 F0000006", 2, Err(17)),
+    ("40000001 60000001 70000007 F0000003", 0, Ok("70000007")),
+    ("40000003 60000001 70000007 60000001 70000007 60000002 70000001 70000002 F0000008", 2, Ok("70000001 70000002")),
+    ("40000001 50000000 50000001 60000001 70000000 F0000005", 0, Err(16)),
+    ("40000000 50000000 F0000002", 0, Err(16)),
+    ("40000002 50000000 60000001 70000000 F0000004", 0, Err(16)),
+    ("40000001 50000000 60000001 70000000 60000001 70000001 F0000006", 0, Err(16)),
+    // An apart word between or behind the threads.
+    ("40000002 60000001 70000000 50000000 60000001 70000001 F0000006", 0, Err(16)),
+    ("40000002 60000001 70000000 60000001 70000001 50000001 F0000006", 0, Err(16)),
+    ("40000001 90000000 60000001 70000000 F0000004", 0, Err(16)),
 ];
 
 fn differ<T>(service: &'static str, log: &[u32], what: String) -> Checked<T> {
@@ -544,6 +724,13 @@ pub fn all<S: Services>(caller: &mut Caller<S>) -> Checked<()> {
             _ => return differ("report", &subject.words, "it has a report".into()),
         }
     }
+    for (log, width, apart) in WIDTHS {
+        let subject = Subject::new(words(log));
+        match caller.report(&subject, PLENTY, random)? {
+            Gave::Report(shown, _) if shown.width == width && shown.threads.len() == width && shown.apart == apart => {}
+            _ => return differ("report", &subject.words, format!("the width is {width}, the apart set {apart:?}")),
+        }
+    }
     for (log, loops) in LOOPS {
         let subject = Subject::new(words(log));
         match caller.report(&subject, PLENTY, random)? {
@@ -589,7 +776,9 @@ pub fn all<S: Services>(caller: &mut Caller<S>) -> Checked<()> {
     two_versions(caller, random)?;
     short_buffers(caller, random)?;
     at_the_ceilings(caller, random)?;
-    at_most_three(caller, random)
+    most_voices(caller, random)?;
+    at_most_three(caller, random)?;
+    at_most_two(caller, random)
 }
 
 /// 0-1 given three times, with every three of these pauses: the copy has the least of them, and it counts once.
@@ -653,6 +842,13 @@ fn short_buffers<S: Services>(caller: &mut Caller<S>, random: &mut Random) -> Ch
         (ALONE, 10_501, WORK, (11, 10_502)),
         ("110000C8 F0000000", 10_501, WORK, (11, 10_502)),
         (LONG_361, 7, WORK, (11, 8)),
+        // With a voices word, whatever it says.
+        ("10000001 90000000 F0000000", 6, WORK, (11, 7)),
+        ("10000001 90010000 F0000000", 6, WORK, (11, 7)),
+        ("10000001 90020000 F0000000", 5, 0, (11, 7)),
+        ("10000001 90020000 F0000000", 7, 0, (12, 16_384)),
+        (SPOKEN, 18, WORK, (11, 19)),
+        ("11000078 90010000 F0000000", 7_681, WORK, (11, 7_682)),
     ];
     for (log, out, work, due) in reports {
         report_refused(caller, &Subject::new(words(log)), Lengths { out, work }, due, random)?;
@@ -670,6 +866,11 @@ fn short_buffers<S: Services>(caller: &mut Caller<S>, random: &mut Random) -> Ch
         (LONG_THEN_SHORT, 5, WORK, (11, 6)),
         (LONG_BESIDE, 7, 0, (11, 8)),
         (LONG_361, 4, WORK - 1, (12, 16_384)),
+        // Each voices word needs one word more, also where it says 1.
+        (SPOKEN, 4, WORK, (11, 5)),
+        ("10000003 90010001 F0000000", 2, WORK, (11, 3)),
+        ("10000003 90010001 F0000000", 3, 0, (12, 16_384)),
+        (DOOR_BETWEEN, 8, WORK, (11, 9)),
     ];
     for (log, out, work, due) in copies {
         let subject = Subject::new(words(log));
@@ -759,7 +960,64 @@ fn at_the_ceilings<S: Services>(caller: &mut Caller<S>, random: &mut Random) -> 
     trimmed_as(caller, &round, exact, &Trimmed::Loop(shown), random)
 }
 
-/// Every set of links on at most three episodes: without pauses, with pauses at random, and in version 1 with 360 minutes
+/// 120 episodes with voices pass and 121 get 20; so do 120 voices words beside 4,096 to words, and the next to word gets 8.
+fn most_voices<S: Services>(caller: &mut Caller<S>, random: &mut Random) -> Checked<()> {
+    let all = |voices: usize| Vec::from_iter((0..120).map(|v| (v, voices)));
+    let chain: Vec<Noted> = (1..120).map(|v| (v - 1, v, 0)).collect();
+    let wide = with_voices(&all(2), log(120, &[], 0, random));
+    let long = with_voices(&all(2), log(120, &chain, 0, random));
+    let doors = with_voices(&all(0), log(120, &chain, 0, random));
+    for (words, width, apart, count) in
+        [(wide, 240, Vec::from_iter(0..120), 602), (long, 2, vec![119], 245), (doors, 0, vec![], 2)]
+    {
+        let subject = Subject::new(words);
+        read_as(caller, &subject, 120, subject.words.iter().filter(|&&w| w >> 28 == TO).count(), random)?;
+        match caller.report(&subject, PLENTY, random)? {
+            Gave::Report(shown, said) if (shown.width, &shown.apart, said.len()) == (width, &apart, count) => {}
+            _ => return differ("report", &subject.words, format!("the width is {width}, the apart set {apart:?}")),
+        }
+        let copy = subject.words.clone();
+        trimmed_as(caller, &subject, PLENTY, &Trimmed::Copy(copy.clone()), random)?;
+        if caller.fair_copy(&subject, PLENTY, random)?.as_ref() != Ok(&copy) {
+            return differ("fair_copy", &subject.words, "the copy is the log".into());
+        }
+    }
+    for n in [121, 200] {
+        refused(caller, with_voices(&[(0, 1)], log(n, &[], 0, random)), (20, 1), random)?;
+    }
+    let one = vec![(0, 1, 0); 4_097];
+    let falling: Vec<_> = (0..120).rev().map(|v| (v, 2)).collect();
+    let subject = Subject::new(with_voices(&falling, log(120, &one[..4_096], 16, random)));
+    read_as(caller, &subject, 120, 4_096, random)?;
+    counted_as(caller, &subject, Ok(1), random)?;
+    let copy = with_voices(&all(2), log(120, &one[..1], 0, random));
+    trimmed_as(caller, &subject, PLENTY, &Trimmed::Copy(copy.clone()), random)?;
+    if caller.fair_copy(&subject, Lengths { out: 8_314, work: WORK }, random)? != Ok(copy) {
+        return differ("fair_copy", &subject.words, "the copy has 120 voices words and one link".into());
+    }
+    refused(caller, with_voices(&falling, log(120, &one, 16, random)), (8, 1 + 120 + 2 * 4_096 + 1), random)
+}
+
+/// Every set of links on at most two episodes, and every voices of these.
+fn at_most_two<S: Services>(caller: &mut Caller<S>, random: &mut Random) -> Checked<()> {
+    for n in 1..=2usize {
+        for i in 0..(1usize << (n * n)) * 3usize.pow(n as u32) {
+            let (set, said) = (i % (1 << (n * n)), i >> (n * n));
+            let links: Vec<_> = (0..n * n).filter(|i| set >> i & 1 == 1).map(|i| (i / n, i % n, 0)).collect();
+            let said = (0..n).map(|v| (v, said / 3usize.pow(v as u32) % 3)).collect::<Vec<_>>();
+            let subject = Subject::new(with_voices(&said, log(n, &links, 0, random)));
+            counted_as(caller, &subject, Ok(links.len()), random)?;
+            let _ = caller.fair_copy(&subject, PLENTY, random)?;
+            let _ = caller.trimmed_copy(&subject, PLENTY, random)?;
+            if let Gave::Report(_, said) = caller.report(&subject, PLENTY, random)? {
+                caller.threads(&said, &parts(&said), &[0, 1, 2, 3, 4], Asked::Whole, random)?;
+            }
+        }
+    }
+    Ok(())
+}
+
+/// Every set of links on at most three episodes, without voices words and with any: without pauses, with pauses at random, and in version 1 with 360 minutes
 /// beside all others with 361.
 fn at_most_three<S: Services>(caller: &mut Caller<S>, random: &mut Random) -> Checked<()> {
     for n in 0..=3 {
@@ -767,8 +1025,11 @@ fn at_most_three<S: Services>(caller: &mut Caller<S>, random: &mut Random) -> Ch
             let links: Vec<_> = (0..n * n).filter(|i| set >> i & 1 == 1).map(|i| (i / n, i % n)).collect();
             let count = links.len();
             let all = (0..n * n).map(|i| (i / n, i % n, if set >> i & 1 == 1 { 360 } else { 361 })).collect();
-            for (version, links) in [(0, older(&links)), (0, shapes::noted(&links, random)), (1, all)] {
-                let subject = Subject::new(in_version(version, log(n, &links, 0, random)));
+            let voices = if n == 0 { Vec::new() } else { shapes::said(n, random) };
+            let noted = [(0, older(&links)), (0, shapes::noted(&links, random)), (1, all), (0, older(&links))];
+            for (i, (version, links)) in noted.into_iter().enumerate() {
+                let said = if i < 3 { &[][..] } else { &voices };
+                let subject = Subject::new(with_voices(said, in_version(version, log(n, &links, 0, random))));
                 caller.read(&subject, random)?;
                 counted_as(caller, &subject, Ok(count), random)?;
                 let _ = caller.fair_copy(&subject, PLENTY, random)?;

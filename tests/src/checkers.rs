@@ -2,7 +2,7 @@
 //! what is expected, and nothing from the library.
 
 use crate::checks::{Check, Found};
-use crate::reference::{Graph, in_order, noted};
+use crate::reference::{Graph, Reading, in_order, noted};
 use crate::words::{APART, END, LOOP, STEP, THREAD, WIDTH, kind, number, version};
 
 /// A report taken apart, by the kinds of its words alone.
@@ -42,24 +42,39 @@ pub fn layout(words: &[u32]) -> Result<Shown, String> {
 /// All that holds of a report on the graph whose furthest apart set is given.
 pub fn report(shown: &Shown, graph: &Graph, furthest: &[usize], found: &mut Found) {
     let Shown { width, apart, threads } = shown;
-    found.ask(Check::Width, *width == furthest.len(), || format!("kind 4 says {width}, the width is {}", furthest.len()));
-    let equal = apart.len() == threads.len() && apart.len() == *width;
-    found.ask(Check::EqualSizes, equal, || format!("{} members, {} threads, kind 4 says {width}", apart.len(), threads.len()));
+    let due = graph.weight(furthest);
+    found.ask(Check::Width, *width == due, || format!("kind 4 says {width}, the width is {due}"));
+    let voices: usize = apart.iter().map(|&member| graph.voices.get(member).unwrap_or(&0)).sum();
+    let equal = voices == threads.len() && voices == *width;
+    found.ask(Check::EqualSizes, equal, || format!("{voices} voices, {} threads, kind 4 says {width}", threads.len()));
     if let Some(what) = not_apart(apart, graph) {
         found.say(Check::Apart, || what);
     }
+    let door = apart.iter().find(|&&member| graph.voices.get(member) == Some(&0));
+    found.ask(Check::Voiced, door.is_none(), || format!("the member {door:?} has no voices"));
     found.ask(Check::Rising, apart.is_sorted(), || format!("the members are {apart:?}"));
     if let Some(what) = no_cover(threads, graph) {
         found.say(Check::Cover, || what);
     }
+    members_passed(shown, graph, found);
+    found.ask(Check::Furthest, apart == furthest, || format!("the members are {apart:?}, the furthest are {furthest:?}"));
+}
+
+/// The members on the threads: each on as many as it has voices, and the threads in the members' order.
+fn members_passed(shown: &Shown, graph: &Graph, found: &mut Found) {
+    let Shown { apart, threads, .. } = shown;
+    for &member in apart.iter().filter(|&&member| member < graph.n) {
+        let (passed, voices) = (threads.iter().filter(|thread| thread.contains(&member)).count(), graph.voices[member]);
+        found.ask(Check::Passed, passed == voices, || format!("{passed} threads pass {member}, which has {voices} voices"));
+    }
+    let mut turns = apart.iter().flat_map(|&member| std::iter::repeat_n(member, *graph.voices.get(member).unwrap_or(&0)));
     for (i, thread) in threads.iter().enumerate() {
-        let mine = |step: &&usize| apart.contains(step);
-        let held: Vec<&usize> = thread.iter().filter(mine).collect();
-        found.ask(Check::Paired, held.len() == 1 && apart.get(i) == Some(held[0]), || {
-            format!("thread {i} holds the members {held:?}")
+        let held: Vec<usize> = thread.iter().copied().filter(|step| apart.contains(step)).collect();
+        let turn = turns.next();
+        found.ask(Check::Paired, held.len() == 1 && turn == Some(held[0]), || {
+            format!("thread {i} holds the members {held:?}, its own is {turn:?}")
         });
     }
-    found.ask(Check::Furthest, apart == furthest, || format!("the members are {apart:?}, the furthest are {furthest:?}"));
 }
 
 fn not_apart(members: &[usize], graph: &Graph) -> Option<String> {
@@ -80,7 +95,7 @@ fn not_apart(members: &[usize], graph: &Graph) -> Option<String> {
 
 /// What keeps the threads from being a cover.
 pub fn no_cover(threads: &[Vec<usize>], graph: &Graph) -> Option<String> {
-    let mut held = vec![false; graph.n];
+    let mut held = vec![0; graph.n];
     for (i, thread) in threads.iter().enumerate() {
         if thread.is_empty() {
             return Some(format!("thread {i} is empty"));
@@ -89,13 +104,15 @@ pub fn no_cover(threads: &[Vec<usize>], graph: &Graph) -> Option<String> {
             if step >= graph.n {
                 return Some(format!("{step} is no episode"));
             }
-            held[step] = true;
+            held[step] += 1;
         }
         if let Some(pair) = thread.windows(2).find(|pair| !graph.linked(pair[0], pair[1])) {
             return Some(format!("thread {i} goes from {} to {} without a link", pair[0], pair[1]));
         }
     }
-    held.iter().position(|held| !held).map(|left| format!("{left} is on no thread"))
+    // An episode that is twice on one thread is on a loop, of which there is none here.
+    let left = (0..graph.n).find(|&v| held[v] < graph.voices[v])?;
+    Some(format!("{left} is on {} threads and has {} voices", held[left], graph.voices[left]))
 }
 
 /// The episodes of a loop's words: kind 8 with the length, then as many steps.
@@ -131,10 +148,10 @@ pub fn not_a_loop(steps: &[usize], graph: &Graph) -> Option<String> {
     (!graph.linked(last, first)).then(|| format!("{last} is not linked to {first}"))
 }
 
-/// What keeps the words from being a log of version 0 with the episodes and the ways of the graph, without repeats, pauses
-/// and loops.
+/// What keeps the words from being a log of version 0 with the episodes, the voices and the ways of the graph, without repeats,
+/// pauses and loops.
 pub fn no_same_ways(words: &[u32], graph: &Graph) -> Option<String> {
-    let (n, t) = match in_order(words) {
+    let Reading { n, links, voices } = match in_order(words) {
         Ok(read) => read,
         Err(refusal) => return Some(format!("the trimmed copy is refused {} at {}", refusal.number, refusal.place)),
     };
@@ -145,8 +162,11 @@ pub fn no_same_ways(words: &[u32], graph: &Graph) -> Option<String> {
     if n != graph.n {
         return Some(format!("{n} episodes instead of {}", graph.n));
     }
-    if copy.links.len() != t {
-        return Some(format!("{t} to words for {} links", copy.links.len()));
+    if copy.voices != graph.voices || voices != graph.voices.iter().filter(|&&voices| voices != 1).count() {
+        return Some(format!("{voices} voices words, and the voices {:?} instead of {:?}", copy.voices, graph.voices));
+    }
+    if copy.links.len() != links {
+        return Some(format!("{links} to words for {} links", copy.links.len()));
     }
     if let Some((from, to, pause)) = noted(words).into_iter().find(|link| link.2 > 0) {
         return Some(format!("the trimmed copy has a pause of {pause} on {from}-{to}"));

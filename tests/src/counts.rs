@@ -1,10 +1,10 @@
 //! How often everything was met, and the table that a run ends with.
 
 use crate::beside::Tally;
-use crate::reference::{Graph, least};
+use crate::reference::{Graph, MOST_WITH_VOICES, least};
 use crate::shapes::BORDERS;
-use crate::words::{HEAD, LARGEST_PAUSE, LONGEST_COUNTED, Link, Noted, TO};
-use crate::words::{episode, episodes, kind, number, pause, version};
+use crate::words::{FROM, HEAD, LARGEST_PAUSE, LONGEST_COUNTED, Link, MOST_VOICES, Noted, Said, TO, VOICES};
+use crate::words::{episode, episodes, kind, number, pause, version, voices};
 use std::collections::BTreeSet;
 
 /// A list of things that are counted, each with its name in the table.
@@ -44,6 +44,7 @@ counted! {
         Repeats = "repeats",
         Loops = "with loops",
         Full = "full size, 200 and 4,096",
+        FullVoices = "full size with voices, 120 and 4,096",
         Ceilings = "around the ceilings",
         Damaged = "damaged",
         Scrap = "words at random",
@@ -140,8 +141,54 @@ counted! {
 }
 
 counted! {
+    /// The voices of logs that pass. A log can be of several of these.
+    Voiced {
+        None = "no voices word",
+        Ones = "voices words that all say 1",
+        One = "a voices word that says 1 beside others",
+        Duets = "duets",
+        Doors = "doors",
+        Both = "duets, doors and episodes with one voice",
+        AllDuets = "all duets",
+        AllDoors = "all doors",
+        Falling = "voices words that do not rise",
+        Single = "one voices word",
+        VersionOne = "voices words in version 1",
+        Most = "120 episodes and voices words",
+        Loop = "a loop, and duets or doors",
+        Between = "a door with a link to it and a link from it",
+        Linked = "a duet linked to a duet",
+        More = "an apart set with more members than the heaviest",
+    }
+}
+
+counted! {
+    /// What is refused at a voices word, or beside one.
+    Voicing {
+        Early = "4, a voices word behind a from word and a to word",
+        Behind = "5, a to word behind voices words",
+        Next = "6, a voices word behind a from word",
+        Last = "9, the last word is a voices word",
+        Seven = "7, at most 2 voices",
+        SevenMany = "7, more than 2 voices",
+        Nineteen = "19, 3 voices",
+        NineteenMore = "19, more than 3 voices",
+        NineteenLow = "19, at most 2 voices by the low 2 bits",
+        NineteenAgain = "19, on an episode that has had a voices word",
+        Twenty = "20, 121 episodes",
+        TwentyMore = "20, more than 121 episodes",
+        TwentySeven = "20, on an episode that is too high",
+        TwentyNineteen = "20, more than 2 voices",
+        TwentyOne = "21, other voices",
+        TwentyOneSame = "21, the same voices",
+        TwentyOneOnes = "21, behind a voices word that says 1",
+    }
+}
+
+counted! {
     /// The words that question 7 refuses.
     Seventh {
+        Voices = "a voices word",
         To = "a to word without a pause",
         ToPaused = "a to word with a pause",
         From = "a from word",
@@ -174,6 +221,14 @@ counted! {
         Version = "another version",
         VersionMany = "another version, and more than 200 episodes",
         VersionKind = "another version, and another kind of the first word",
+        VoicesAdded = "a voices word more behind the head",
+        VoicesAgain = "a second voices word on an episode",
+        VoicesMany = "a voices word with more than 2 voices",
+        VoicesOut = "a voices word on an episode that is not there",
+        VoicesLate = "a voices word behind the first from word",
+        VoicesLast = "a voices word for the end",
+        VoicesBefore = "a voices word for the first from word",
+        VoicesHead = "a voices word, and 119 to 122 episodes",
     }
 }
 
@@ -184,6 +239,7 @@ counted! {
         Behind = "a report with words behind it",
         DamagedReport = "a damaged report",
         MadeUp = "a layout without a log",
+        FewApart = "a layout without a log, fewer apart words than threads",
         DamagedLayout = "a damaged layout",
         OtherWords = "a log, a loop, a copy or any words",
     }
@@ -236,6 +292,15 @@ counted! {
         ShortPauses = "one log in both versions, no pause above 360",
         CountedAlone = "a log of version 1, and its links that count alone",
         ZeroPauses = "version 0, other pauses and repeats",
+        VoicesOrder = "voices words in another order",
+        SaidOnes = "with voices words that say 1, and without",
+        Doors = "all doors, without a loop",
+        DoorsLoop = "all doors, with a loop",
+        AllDuets = "all duets, and one voice each",
+        VoiceMore = "one voice more",
+        VoiceFewer = "one voice fewer",
+        WidthOne = "one voice more or fewer, and another width",
+        AsItems = "an episode for each voice and a link for each way",
     }
 }
 
@@ -278,6 +343,77 @@ impl Pauses {
     }
 }
 
+impl Voiced {
+    /// Those of a log of this version that passes, which has a loop or not. `more` is asked whether an apart set has more members
+    /// than the heaviest.
+    pub fn met(version: usize, said: &[Said], graph: &Graph, has_loop: bool, more: impl FnOnce() -> bool) -> Vec<Voiced> {
+        if said.is_empty() {
+            return vec![Voiced::None];
+        }
+        let says = |voices: usize| said.iter().any(|said| said.1 == voices);
+        let all = |voices: usize| graph.voices.iter().all(|&own| own == voices);
+        let linked = |one: usize, two: usize| graph.voices[one] == 2 && graph.voices[two] == 2 && one != two;
+        let to = |v: usize| graph.next.iter().any(|next| next.contains(&v));
+        let ones = !says(0) && !says(2);
+        let met = [
+            (Voiced::Ones, ones),
+            (Voiced::One, says(1) && !ones),
+            (Voiced::Duets, says(2)),
+            (Voiced::Doors, says(0)),
+            (Voiced::Both, says(0) && says(2) && graph.voices.contains(&1)),
+            (Voiced::AllDuets, all(2)),
+            (Voiced::AllDoors, all(0)),
+            (Voiced::Falling, !said.is_sorted()),
+            (Voiced::Single, said.len() == 1),
+            (Voiced::VersionOne, version == 1),
+            (Voiced::Most, graph.n == MOST_WITH_VOICES),
+            (Voiced::Loop, has_loop && !ones),
+            (Voiced::Between, (0..graph.n).any(|v| graph.voices[v] == 0 && !graph.next[v].is_empty() && to(v))),
+            (Voiced::Linked, graph.links.iter().any(|&(from, to)| linked(from, to))),
+            (Voiced::More, !ones && more()),
+        ];
+        met.into_iter().filter(|met| met.1).map(|met| met.0).collect()
+    }
+}
+
+impl Voicing {
+    /// Those of a log that is refused by this number at this place.
+    fn met(log: &[u32], number: u32, place: usize) -> Vec<Voicing> {
+        let given = log.get(place).copied().unwrap_or(0);
+        let is_voices = kind(given) == VOICES;
+        let n = log.first().map_or(0, |&head| episodes(head));
+        let before =
+            log.get(1..place).unwrap_or(&[]).iter().find(|&&word| kind(word) == VOICES && episode(word) == episode(given));
+        let (count, many) = (voices(given), voices(given) > MOST_VOICES);
+        let met = match number {
+            4 => vec![(Voicing::Early, is_voices && log[..place].iter().any(|&word| kind(word) == FROM))],
+            5 => vec![(Voicing::Behind, place > 1 && kind(log[place - 1]) == VOICES)],
+            6 => vec![(Voicing::Next, place + 2 < log.len() && kind(log[place + 1]) == VOICES)],
+            7 => vec![(Voicing::Seven, is_voices && !many), (Voicing::SevenMany, is_voices && many)],
+            9 => vec![(Voicing::Last, is_voices)],
+            19 => vec![
+                (Voicing::Nineteen, count == 3),
+                (Voicing::NineteenMore, count > 3),
+                (Voicing::NineteenLow, count % 4 <= MOST_VOICES),
+                (Voicing::NineteenAgain, before.is_some()),
+            ],
+            20 => vec![
+                (Voicing::Twenty, n == 121),
+                (Voicing::TwentyMore, n > 121),
+                (Voicing::TwentySeven, episode(given) >= n),
+                (Voicing::TwentyNineteen, many),
+            ],
+            21 => vec![
+                (Voicing::TwentyOne, before != Some(&given)),
+                (Voicing::TwentyOneSame, before == Some(&given)),
+                (Voicing::TwentyOneOnes, before.is_some_and(|&word| voices(word) == 1)),
+            ],
+            _ => Vec::new(),
+        };
+        met.into_iter().filter(|met| met.1).map(|met| met.0).collect()
+    }
+}
+
 impl First {
     /// Those of a log of two words or more, with a head of this version that gives n episodes.
     fn met(version: usize, n: usize) -> Vec<First> {
@@ -317,7 +453,7 @@ impl LongPauses {
         };
         let (all_loop, has_loop) = loops;
         let met = match version {
-            0 => vec![(Long::Kept, some), (Long::KeptLoop, some && has_loop && !Graph::new(n, short).has_loop())],
+            0 => vec![(Long::Kept, some), (Long::KeptLoop, some && has_loop && !Graph::new(vec![1; n], short).has_loop())],
             _ => vec![
                 (Long::None, !once.is_empty() && !some),
                 (Long::Some, some && !all),
@@ -341,6 +477,7 @@ impl Links {
         for &given in &log[1..log.len() - 1] {
             match kind(given) {
                 TO => all.push(((from, episode(given)), group, pause(given), all.len())),
+                VOICES => {}
                 _ => (from, group) = (number(given), group + 1),
             }
         }
@@ -377,15 +514,15 @@ type GivenTo = (Link, usize, usize, usize);
 const SERVICES: usize = Service::NAMES.len();
 
 /// One more than the largest refusal number.
-const NUMBERS: usize = 19;
+const NUMBERS: usize = 22;
 
 /// The answers that each service can give, all of which have to be met.
 const MUST: [&[usize]; SERVICES] = [
-    &[0, 1, 2, 3, 4, 5, 6, 7, 8, 9, 10, 18],
-    &[0, 1, 2, 3, 4, 5, 6, 7, 8, 9, 10, 18],
-    &[0, 1, 2, 3, 4, 5, 6, 7, 8, 9, 10, 11, 12, 13, 18],
-    &[0, 1, 2, 3, 4, 5, 6, 7, 8, 9, 10, 11, 12, 18],
-    &[0, 1, 2, 3, 4, 5, 6, 7, 8, 9, 10, 11, 12, 13, 18],
+    &[0, 1, 2, 3, 4, 5, 6, 7, 8, 9, 10, 18, 19, 20, 21],
+    &[0, 1, 2, 3, 4, 5, 6, 7, 8, 9, 10, 18, 19, 20, 21],
+    &[0, 1, 2, 3, 4, 5, 6, 7, 8, 9, 10, 11, 12, 13, 18, 19, 20, 21],
+    &[0, 1, 2, 3, 4, 5, 6, 7, 8, 9, 10, 11, 12, 18, 19, 20, 21],
+    &[0, 1, 2, 3, 4, 5, 6, 7, 8, 9, 10, 11, 12, 13, 18, 19, 20, 21],
     &[0, 16, 17],
 ];
 
@@ -394,7 +531,7 @@ pub struct Counts {
     pub calls: u64,
     pub rounds: u64,
     numbers: [[u64; NUMBERS]; SERVICES],
-    lists: [(&'static str, &'static [&'static str], Vec<u64>); 17],
+    lists: [(&'static str, &'static [&'static str], Vec<u64>); 20],
     /// The calls that were compared with an older build.
     pub beside: Tally,
 }
@@ -424,6 +561,9 @@ impl Counts {
                 list("calls by shape of log, in version 1", Shape::NAMES),
                 list("calls by a least pause of a log that passes", &LEAST),
                 list("calls by long pauses of a log that passes", Long::NAMES),
+                list("calls by shape of log, with a voices word", Shape::NAMES),
+                list("calls by voices of a log that passes", Voiced::NAMES),
+                list("calls refused at a voices word or beside one", Voicing::NAMES),
             ],
             beside: Tally::default(),
         }
@@ -443,6 +583,7 @@ impl Counts {
         self.lists[0].2[shape as usize] += 1;
         self.lists[8].2[shape as usize] += u64::from(paused);
         self.lists[14].2[shape as usize] += u64::from(one);
+        self.lists[17].2[shape as usize] += u64::from(log.iter().any(|&given| kind(given) == VOICES));
     }
 
     /// A call on a log: its first word.
@@ -513,10 +654,25 @@ impl Counts {
         }
     }
 
+    pub fn voiced(&mut self, voiced: Voiced) {
+        self.lists[18].2[voiced as usize] += 1;
+    }
+
+    /// A log is refused.
+    pub fn refused(&mut self, log: &[u32], number: u32, place: usize) {
+        if number == 7 {
+            self.seventh(log, place);
+        }
+        for voicing in Voicing::met(log, number, place) {
+            self.lists[19].2[voicing as usize] += 1;
+        }
+    }
+
     /// Question 7 refuses the word at `place`.
-    pub fn seventh(&mut self, log: &[u32], place: usize) {
+    fn seventh(&mut self, log: &[u32], place: usize) {
         let given = log[place];
         let seventh = match kind(given) {
+            VOICES => Seventh::Voices,
             TO if pause(given) > 0 => Seventh::ToPaused,
             TO => Seventh::To,
             _ if episode(given) < episodes(log[0]) => Seventh::FromLow,

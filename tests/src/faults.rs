@@ -3,10 +3,15 @@
 use crate::checkers::{self, Shown};
 use crate::counts::Service;
 use crate::lent::Lent;
-use crate::reference::{Graph, WORK, copy_need, copy_words, in_order, least, noted, parts, report_need};
-use crate::services::{Answer, Door, Library, ReadAnswer, Services, ThreadAnswer};
-use crate::words::{APART, END, FROM, HEAD, LARGEST, LARGEST_PAUSE, LONGEST_COUNTED, Link, Noted, STEP, THREAD, TO, WIDTH};
-use crate::words::{episode, episodes, head_word, in_version, kind, number, older, pause, to_word, version, word};
+use crate::model::{report_on, trimmed_copy_of};
+use crate::reference::{Graph, WORK, copy_need, copy_words, in_order, least, noted, parts, report_need, said, voices};
+use crate::services::{Answer, Door, ReadAnswer, Services, ThreadAnswer};
+use crate::voice_faults::{self, Placed};
+use crate::words::{
+    APART, END, FROM, HEAD, LARGEST, LARGEST_PAUSE, LONGEST_COUNTED, Link, Noted, STEP, THREAD, TO, VOICES, WIDTH,
+};
+use crate::words::{episode, episodes, head_word, in_version, kind, number, older, pause, to_word, version, voices_word};
+use crate::words::{report, word};
 use std::collections::{BTreeMap, BTreeSet};
 
 macro_rules! faults {
@@ -212,19 +217,115 @@ faults! {
     EighteenReport = "question 18 not asked by the report",
     EighteenFair = "question 18 not asked by the fair copy",
     EighteenTrim = "question 18 not asked by the trimmed copy",
+    VoicesRefused = "4 for every voices word",
+    VoicesLate = "a voices word behind a group let through",
+    VoicesLateAll = "a voices word in front of a group that is not the first let through",
+    VoicesNext = "4 for 6 where a voices word follows a from word",
+    VoicesFive = "4 for 5 behind voices words",
+    VoicesEight = "voices words counted by question 8",
+    VoicesTen = "voices words counted by question 10",
+    VoicesCounted = "voices words counted with the to words of the reading",
+    VoicesNine = "a voices word for the end let through",
+    TwentyEarly = "20 for 120 episodes",
+    TwentyLate = "20 only above 121 episodes",
+    TwentyUnasked = "question 20 not asked",
+    TwentyOthers = "question 20 asked only where the voices are not 1",
+    TwentyPlace = "20 with place 0",
+    TwentyHead = "20 of a log with 121 episodes or more and no voices word",
+    SevenFirst = "question 7 of a voices word before question 20",
+    SevenVoices = "question 7 not asked of voices words",
+    SevenVoicesLow = "the episode of a voices word by its low 8 bits alone",
+    SevenVoicesWhole = "question 7 of a voices word by its whole number",
+    NineteenFirst = "question 19 before question 7",
+    NineteenBeforeTwenty = "question 19 before question 20",
+    NineteenUnasked = "question 19 not asked, and 2 voices for more",
+    NineteenThree = "3 voices let through",
+    NineteenLow = "voices by their low 2 bits alone",
+    NineteenTwo = "19 for 2 voices",
+    NineteenZero = "19 for no voices",
+    TwentyOneFirst = "question 21 before question 19",
+    TwentyOneUnasked = "question 21 not asked, and the first voices word kept",
+    TwentyOneLast = "question 21 not asked, and the last voices word kept",
+    TwentyOneSame = "21 only where the voices differ",
+    TwentyOneOnes = "21 only behind other voices than 1",
+    TwentyOneNext = "21 only for voices words side by side",
+    VoicesPlace = "19 and 21 with the episode as the place",
+    VoicesOrder = "21 where voices words do not rise",
+    VoicesWrites = "refusals 19 to 21 write to the output",
+    VoicesClears = "refusals 19 to 21 clear the work buffer",
+    VoicesRead = "questions 19 and 21 not asked by the reading",
+    VoicesLinks = "questions 19 and 21 not asked by the link count",
+    VoicesReport = "questions 19 and 21 not asked by the report",
+    VoicesFair = "questions 19 and 21 not asked by the fair copy",
+    VoicesTrim = "questions 19 and 21 not asked by the trimmed copy",
+    VoicesIgnored = "voices ignored by the report",
+    VoicesShifted = "the voices of episode v + 1 for episode v",
+    VoicesFirst = "only the first voices word heard",
+    VoicesLastWord = "the last voices word not heard",
+    DoorsIgnored = "a door taken for an episode with one voice",
+    DuetsIgnored = "a duet taken for an episode with one voice",
+    DoorsOut = "doors taken out, with their links",
+    LargestSet = "the largest apart set instead of the heaviest",
+    HeaviestLeastFar = "the furthest set of one voice each, where it is as heavy",
+    DoorMember = "a member without voices",
+    DuetOnce = "one thread for a duet",
+    DuetThird = "a thread more for a duet",
+    DuetTwice = "a duet twice in the apart set",
+    DuetLast = "the second thread of each duet behind all others",
+    DuetOther = "a thread of a duet replaced by one of another member",
+    ThreadsRotated = "the first thread behind all others",
+    MembersCounted = "kind 4 holds how many members there are",
+    VoicesSummed = "kind 4 holds the sum of all voices",
+    DoorCovered = "a thread more for a door",
+    DoorStepped = "doors left out of the threads",
+    AllDoorsOne = "a thread for the first episode where all are doors",
+    AllDoorsLoop = "a loop of doors alone let through",
+    NeedPlain = "11 with 2 + 2n + q for a log with a voices word",
+    NeedVoices = "11 with 2 + 3n + 2q for every log",
+    NeedOnes = "11 with 2 + 2n + q where all voices words say 1",
+    CopyVoices = "the fair copy without voices words",
+    CopyOnes = "voices words that say 1 in the fair copy",
+    CopyEach = "a voices word for each episode in the fair copy",
+    CopyGiven = "voices words in the order of the log in the fair copy",
+    CopyBehind = "voices words behind the groups of the fair copy",
+    CopyDoors = "only doors in the voices words of the fair copy",
+    CopyDuets = "only duets in the voices words of the fair copy",
+    CopyVoicesSwapped = "duets and doors the wrong way round in the fair copy",
+    CopyVoicesNeed = "11 for a copy without voices words",
+    CopyVoicesOwn = "11 for a copy with only the voices words that it writes",
+    CopyVoicesTwice = "11 for a copy with two words for each voices word",
+    TrimVoices = "the trimmed copy without voices words",
+    TrimOnes = "voices words that say 1 in the trimmed copy",
+    TrimGiven = "voices words in the order of the log in the trimmed copy",
+    TrimVoicesNeed = "11 for a trimmed copy without voices words",
+    TrimVoicesOwn = "11 for a trimmed copy with only the voices words that it writes",
+    TrimDoors = "links from and to doors left out of the trimmed copy",
+    TrimDoorRound = "a link dropped only for a path without doors",
+    CountDoors = "links from and to doors not counted",
+    CountVoices = "voices words counted for links",
+    ApartEqual = "16 for a report with fewer apart words than threads",
+    ApartMore = "one apart word more than threads let through",
+    ApartNone = "16 for a report with threads and no apart word",
+    ApartThreads = "17 by the count of apart words",
+    ApartStart = "threads sought behind k apart words",
 }
 
-/// The library with a fault, and the links that the fault keeps from one call to the next.
-pub struct Faulty(Fault, BTreeSet<Link>);
+/// The services with a fault, and the links that the fault keeps from one call to the next.
+pub struct Faulty<S>(Fault, BTreeSet<Link>, S);
 
-impl Faulty {
-    pub fn new(fault: Fault) -> Faulty {
-        Faulty(fault, BTreeSet::new())
+impl<S: Services> Faulty<S> {
+    pub fn new(fault: Fault, services: S) -> Faulty<S> {
+        Faulty(fault, BTreeSet::new(), services)
     }
 
-    /// A call of a service of the library, which gets the words of the log as the fault misreads them.
-    fn misread<T>(&self, service: Service, log: &mut Lent, call: impl FnOnce(&mut Lent) -> T) -> T {
+    /// A call of a service, which gets the words of the log as the fault misreads them.
+    fn misread<T: Placed>(&mut self, service: Service, log: &mut Lent, call: impl FnOnce(&mut S, &mut Lent) -> T) -> T {
         let words = log.lent().to_vec();
+        if let Some(other) = voice_faults::reread(self.0, service, &words) {
+            let mut answer = call(&mut self.2, &mut Lent::of(&other));
+            answer.move_on(words.len() - other.len());
+            return answer;
+        }
         let last = words.len().saturating_sub(1);
         let long = |given: u32| version(words[0]) == 1 && pause(given) > LONGEST_COUNTED;
         if let Some(other) = recounted(self.0, service, &words) {
@@ -235,6 +336,7 @@ impl Faulty {
             *given = match (self.0, kind(*given)) {
                 // No log has so many episodes: the word is refused at its place.
                 (Fault::SevenWhole, TO) if pause(*given) > 0 => to_word(65_535, 0),
+                (Fault::SevenVoicesWhole, VOICES) if pause(*given) > 0 && place > 0 => voices_word(65_535, 0),
                 (Fault::SevenFromLow, FROM) => low,
                 (Fault::EpisodeByte, TO) => to_word(episode(*given) % 256, pause(*given)),
                 (Fault::EpisodeBit, TO) => to_word(episode(*given) % 32_768, pause(*given)),
@@ -245,7 +347,7 @@ impl Faulty {
                 _ => *given,
             }
         }
-        let answer = call(log);
+        let answer = call(&mut self.2, log);
         log.lent_mut().copy_from_slice(&words);
         answer
     }
@@ -264,10 +366,10 @@ impl Faulty {
             Fault::EighteenPlace if number == 18 => (18, version),
             Fault::PlaceOff if (4..=10).contains(&number) => (number, place + 1),
             Fault::SevenBeforeSix if number == 6 && self::number(log[place]) >= n => (7, place),
-            Fault::EightEarly if in_order(log).is_ok_and(|read| read.1 == 4_096) => (8, log.len() - 2),
+            Fault::EightEarly if in_order(log).is_ok_and(|read| read.links == 4_096) => (8, log.len() - 2),
             Fault::RefusesAll if number == 0 => (10, log.len() - 1),
-            Fault::PassingRefused if in_order(log).is_ok_and(|read| read.0 == 200) => (3, 0),
-            _ => (number, place),
+            Fault::PassingRefused if in_order(log).is_ok_and(|read| read.n == 200) => (3, 0),
+            fault => voice_faults::refusal(fault, log, number, place),
         }
     }
 
@@ -284,6 +386,8 @@ impl Faulty {
             Fault::RefusalClears if answer.number == 11 => work.lent_mut().fill(0),
             Fault::EighteenWrites if answer.number == 18 => changed(out.lent_mut(), 1),
             Fault::EighteenClears if answer.number == 18 => work.lent_mut().fill(0),
+            Fault::VoicesWrites if (19..=21).contains(&answer.number) => changed(out.lent_mut(), 1),
+            Fault::VoicesClears if (19..=21).contains(&answer.number) => work.lent_mut().fill(0),
             Fault::LogChanged => changed(log.lent_mut(), 1),
             _ => {}
         }
@@ -386,6 +490,11 @@ fn to_words_counted(words: &[u32]) -> usize {
     heard(words).iter().filter(joins).count()
 }
 
+/// How many voices words the words have.
+fn voices_words(words: &[u32]) -> usize {
+    words.iter().filter(|&&given| kind(given) == VOICES).count()
+}
+
 /// The links that words give, whatever they are.
 fn heard(words: &[u32]) -> Vec<Noted> {
     let mut from = 0;
@@ -439,7 +548,8 @@ fn rewrite(out: &mut Lent, written: usize, words: &[u32]) -> bool {
 
 /// The log with every link turned round.
 fn turned(graph: &Graph) -> Vec<u32> {
-    let mut words = vec![word(HEAD, graph.n)];
+    let mut words = copy_words(0, &graph.voices, &[]);
+    words.pop();
     for &(from, to) in &graph.links {
         words.extend([word(FROM, to), word(TO, from)]);
     }
@@ -450,14 +560,12 @@ fn turned(graph: &Graph) -> Vec<u32> {
 /// The log without the links whose least pause is above 0.
 fn without_paused(log: &[u32]) -> Vec<u32> {
     let links: Vec<Noted> = least(&noted(log)).into_iter().filter(|link| link.2 == 0).collect();
-    copy_words(0, episodes(log[0]), &links)
+    copy_words(0, &Graph::of(log).voices, &links)
 }
 
-/// The library's report on a log, on buffers that suffice, taken apart.
-fn shown_on(log: &[u32]) -> Option<Shown> {
-    let (mut out, mut work) = (vec![0; report_need(episodes(log[0]))], vec![0; WORK]);
-    let zohapy::Outcome::Report(count) = zohapy::report(log, &mut out, &mut work) else { return None };
-    checkers::layout(&out[..count]).ok()
+/// The model's report on a log, taken apart.
+pub fn shown_on(log: &[u32]) -> Option<Shown> {
+    checkers::layout(&report_on(log)?).ok()
 }
 
 /// Adds to each step the least pause of the link from the step before it, in bits 16 to 27. In a loop the last step
@@ -529,8 +637,8 @@ fn altered(fault: Fault, log: &[u32], mut shown: Shown) -> Option<Shown> {
         Fault::LeastFar => {
             shown.apart = shown_on(&turned(&graph))?.apart;
             let threads = shown.threads.clone();
-            let holding = |member: &usize| threads.iter().find(|thread| thread.contains(member)).cloned();
-            shown.threads = shown.apart.iter().map(holding).collect::<Option<_>>()?;
+            let holding = |member: &usize| threads.iter().filter(|thread| thread.contains(member)).cloned().collect::<Vec<_>>();
+            shown.threads = shown.apart.iter().flat_map(holding).collect();
         }
         Fault::ShareNothing => {
             let mut used = vec![false; graph.n];
@@ -590,8 +698,9 @@ fn altered(fault: Fault, log: &[u32], mut shown: Shown) -> Option<Shown> {
             shown.threads.reverse();
         }
         Fault::OtherMember => {
-            let (i, other) = shown.threads.iter().enumerate().find_map(|(i, thread)| {
-                let other = thread.iter().find(|step| **step != shown.apart[i])?;
+            let (i, other) = shown.apart.iter().enumerate().find_map(|(i, member)| {
+                let thread = shown.threads.iter().find(|thread| thread.contains(member))?;
+                let other = thread.iter().find(|step| *step != member)?;
                 Some((i, *other))
             })?;
             shown.apart[i] = other;
@@ -599,7 +708,7 @@ fn altered(fault: Fault, log: &[u32], mut shown: Shown) -> Option<Shown> {
         Fault::TwoMembers if k >= 2 => shown.threads[0] = shown.threads[1].clone(),
         Fault::PauseParts => shown = shown_on(&without_paused(log))?,
         Fault::StepPause => shown.threads.iter_mut().for_each(|thread| add_pauses(log, thread)),
-        _ => return None,
+        _ => return voice_faults::altered(fault, &graph, shown),
     }
     Some(shown)
 }
@@ -662,7 +771,7 @@ fn altered_pauses(fault: Fault, log: &[u32]) -> Option<Vec<Noted>> {
             links = chosen(log, |pauses| smallest(&Vec::from_iter(pauses.iter().copied().filter(|&pause| pause > 0))));
         }
         Fault::PauseMost => links.retain(|link| link.2 < LARGEST_PAUSE),
-        Fault::CopyOfCopy if copy_words(version(log[0]), episodes(log[0]), &links) == log => drop(links.pop()),
+        Fault::CopyOfCopy if copy_words(version(log[0]), &voices_of(log), &links) == log => drop(links.pop()),
         Fault::CopyNoLong if version(log[0]) == 1 => links.retain(|link| link.2 <= LONGEST_COUNTED),
         Fault::CopyShort => links.iter_mut().for_each(|link| link.2 = link.2.min(LONGEST_COUNTED + 1)),
         Fault::PauseGroup => {
@@ -722,14 +831,16 @@ fn altered_copy(fault: Fault, log: &[u32], copy: &mut Vec<u32>) {
         Fault::CopyAsIs => *copy = log.to_vec(),
         Fault::CopyNoLoops => {
             let others: Vec<Noted> = noted(copy).into_iter().filter(|link| link.0 != link.1).collect();
-            *copy = copy_words(version(copy[0]), episodes(copy[0]), &others);
+            *copy = copy_words(version(copy[0]), &voices_of(log), &others);
         }
         Fault::CopyHead => copy[0] = head_word(version(copy[0]), 200),
         Fault::CopyVersion => copy[0] = head_word(0, episodes(copy[0])),
         Fault::CopyVersionOne => copy[0] = head_word(1, episodes(copy[0])),
         _ => {
             if let Some(links) = altered_pauses(fault, log) {
-                *copy = copy_words(version(copy[0]), episodes(copy[0]), &links);
+                *copy = copy_words(version(copy[0]), &voices_of(log), &links);
+            } else {
+                voice_faults::altered_copy(fault, Service::FairCopy, log, copy);
             }
         }
     }
@@ -763,21 +874,48 @@ fn altered_trimmed(fault: Fault, log: &[u32], copy: &mut Vec<u32>) {
         }
         Fault::TrimPause => {
             let links = least(&noted(log)).into_iter().filter(|link| kept.contains(&(link.0, link.1)));
-            return *copy = copy_words(0, trimmed.n, &Vec::from_iter(links));
+            return *copy = copy_words(0, &trimmed.voices, &Vec::from_iter(links));
         }
         Fault::TrimLongAdded => kept.extend(Graph::of_all(log).links.into_iter().filter(|link| !graph.links.contains(link))),
         Fault::TrimLongRound => {
-            let Some(all) = trimmed_words(&in_version(0, log.to_vec())) else { return };
+            let Some(all) = trimmed_copy_of(&in_version(0, log.to_vec())) else { return };
             let stay = Graph::of(&all).links;
             kept.retain(|link| stay.contains(link));
         }
         Fault::TrimVersion => return copy[0] = head_word(version(log[0]), trimmed.n),
-        Fault::PauseParts => return *copy = trimmed_words(&without_paused(log)).unwrap_or_default(),
+        Fault::PauseParts => return *copy = trimmed_copy_of(&without_paused(log)).unwrap_or_default(),
         Fault::TrimHead => return copy[0] = head_word(0, 200),
         Fault::TrimFalling => return swap_two(copy),
-        _ => return,
+        Fault::TrimDoors => kept.retain(|link| graph.voices[link.0] > 0 && graph.voices[link.1] > 0),
+        Fault::TrimDoorRound => {
+            let doors: Vec<bool> = graph.voices.iter().map(|&voices| voices == 0).collect();
+            kept.extend(graph.links.iter().filter(|&&link| !joined_past(&graph, &doors, link)));
+        }
+        _ => return voice_faults::altered_copy(fault, Service::TrimmedCopy, log, copy),
     }
-    *copy = copy_words(0, trimmed.n, &older(&Graph::new(trimmed.n, kept).links));
+    *copy = copy_words(0, &trimmed.voices, &older(&Graph::new(trimmed.voices.clone(), kept).links));
+}
+
+/// The voices of the episodes of a log that passes.
+fn voices_of(log: &[u32]) -> Vec<usize> {
+    voices(episodes(log[0]), &said(log))
+}
+
+/// Whether other links lead from the first episode to the second past those that are marked.
+fn joined_past(graph: &Graph, marked: &[bool], out: Link) -> bool {
+    let (mut seen, mut stack) = (marked.to_vec(), vec![out.0]);
+    while let Some(at) = stack.pop() {
+        for &to in graph.next[at].iter().filter(|&&to| (at, to) != out) {
+            if to == out.1 {
+                return true;
+            }
+            if !seen[to] {
+                seen[to] = true;
+                stack.push(to);
+            }
+        }
+    }
+    false
 }
 
 /// Whether other links lead from the first episode to the second in no more minutes.
@@ -796,14 +934,6 @@ fn shorter_path(links: &[Noted], n: usize, (first, second, most): Noted) -> bool
         }
     }
     minutes[second].is_some_and(|minutes| minutes <= most)
-}
-
-/// The words of the library's trimmed copy, on buffers that suffice.
-fn trimmed_words(log: &[u32]) -> Option<Vec<u32>> {
-    let (mut out, mut work) = (vec![0; copy_need(log.len())], vec![0; WORK]);
-    let zohapy::TrimOutcome::Trimmed(count) = zohapy::trimmed_copy(log, &mut out, &mut work) else { return None };
-    out.truncate(count);
-    Some(out)
 }
 
 /// Gives a trimmed copy where nothing was written, if the buffers have room for it.
@@ -855,6 +985,8 @@ fn altered_count(fault: Fault, log: &[u32], kept: &mut BTreeSet<Link>) -> Option
             different(all.iter().filter(|given| lasts[given.0.0] == Some(given.1)))
         }
         Fault::CountLastEpisode => links.filter(|link| link.0 + 1 < graph.n).count(),
+        Fault::CountDoors => links.filter(|&(from, to)| graph.voices[from] > 0 && graph.voices[to] > 0).count(),
+        Fault::CountVoices => graph.links.len() + voices_words(log),
         Fault::CountFrom => different(links.map(|link| link.0)),
         Fault::CountTo => different(links.map(|link| link.1)),
         Fault::CountForgotten => 0,
@@ -863,7 +995,7 @@ fn altered_count(fault: Fault, log: &[u32], kept: &mut BTreeSet<Link>) -> Option
         Fault::CountRow128 => different(links.map(|(from, to)| (from, to % 128))),
         Fault::CountFrom128 => different(links.map(|(from, to)| (from % 128, to))),
         Fault::CountRows => different(links.map(|(from, to)| 192 * from + to)),
-        Fault::CountTrimmed => Graph::of(&trimmed_words(log)?).links.len(),
+        Fault::CountTrimmed => Graph::of(&trimmed_copy_of(log)?).links.len(),
         Fault::CountWays => (0..graph.n).map(|v| graph.ways_from(v).iter().filter(|&&way| way).count()).sum(),
         Fault::CountKept => {
             kept.extend(links);
@@ -878,9 +1010,9 @@ fn altered_count(fault: Fault, log: &[u32], kept: &mut BTreeSet<Link>) -> Option
     Some(count)
 }
 
-impl Services for Faulty {
+impl<S: Services> Services for Faulty<S> {
     fn read(&mut self, door: Door, log: &mut Lent) -> ReadAnswer {
-        let mut answer = self.misread(Service::Read, log, |log| Library.read(door, log));
+        let mut answer = self.misread(Service::Read, log, |services, log| services.read(door, log));
         (answer.number, answer.place) = self.refusal(log.lent(), answer.number, answer.place);
         let words = log.lent();
         match self.0 {
@@ -890,6 +1022,10 @@ impl Services for Faulty {
             }
             Fault::ReadHead if answer.number == 0 => answer.episodes = number(words[0]),
             Fault::ReadNoLong if answer.number == 0 => answer.links = to_words_counted(words),
+            Fault::VoicesCounted if answer.number == 0 => answer.links += voices_words(words),
+            Fault::VoicesNine if answer.number == 9 && kind(words[answer.place]) == VOICES => {
+                answer = ReadAnswer { number: 0, place: 0, episodes: episodes(words[0]), links: to_words(words) };
+            }
             Fault::EightNoLong if answer.number == 8 && to_words_counted(words) <= 4_096 => {
                 answer = ReadAnswer { number: 0, place: 0, episodes: episodes(words[0]), links: to_words(words) };
             }
@@ -901,7 +1037,7 @@ impl Services for Faulty {
     }
 
     fn links(&mut self, door: Door, log: &mut Lent) -> Answer {
-        let mut answer = self.misread(Service::Links, log, |log| Library.links(door, log));
+        let mut answer = self.misread(Service::Links, log, |services, log| services.links(door, log));
         (answer.number, answer.value) = self.refusal(log.lent(), answer.number, answer.value);
         let words = log.lent();
         let last = words.len().saturating_sub(1);
@@ -931,11 +1067,11 @@ impl Services for Faulty {
     }
 
     fn report(&mut self, door: Door, log: &mut Lent, out: &mut Lent, work: &mut Lent) -> Answer {
-        let mut answer = self.misread(Service::Report, log, |log| Library.report(door, log, out, work));
+        let mut answer = self.misread(Service::Report, log, |services, log| services.report(door, log, out, work));
         assert!(self.0 != Fault::Panics || answer.number != 13, "a fault");
         self.buffers(answer, log, out, work);
         (answer.number, answer.value) = self.refusal(log.lent(), answer.number, answer.value);
-        let need = report_need(episodes(log.lent().first().copied().unwrap_or(0)));
+        let need = in_order(log.lent()).map_or(0, |read| report_need(read.n, read.voices));
         match (self.0, answer.number) {
             (Fault::EndOff, 0) => out.lent_mut()[answer.value - 1] += 1,
             (Fault::CountOff, 0) => answer.value -= 1,
@@ -945,6 +1081,13 @@ impl Services for Faulty {
             (Fault::LoopPlace, 13) => answer.value += 1,
             (Fault::TwelveFirst, 11) if work.len() < WORK => answer = Answer { number: 12, value: WORK },
             (Fault::TwelveLength, 12) => answer.value = work.len(),
+            (fault, 11) => answer.value = voice_faults::report_needed(fault, log.lent()).unwrap_or(answer.value),
+            (Fault::AllDoorsLoop, 13) if voice_faults::only_doors(log.lent(), &out.lent()[1..answer.value + 1]) => {
+                let words = report(&[], &[]);
+                if rewrite(out, answer.value + 1, &words) {
+                    answer = Answer { number: 0, value: words.len() };
+                }
+            }
             (Fault::ElevenTooMany, 0 | 13) if out.len() == need => {
                 let (words, work_words) = (out.before().to_vec(), work.before().to_vec());
                 out.lent_mut().copy_from_slice(&words);
@@ -969,16 +1112,17 @@ impl Services for Faulty {
     }
 
     fn fair_copy(&mut self, door: Door, log: &mut Lent, out: &mut Lent, work: &mut Lent) -> Answer {
-        let mut answer = self.misread(Service::FairCopy, log, |log| Library.fair_copy(door, log, out, work));
+        let mut answer = self.misread(Service::FairCopy, log, |services, log| services.fair_copy(door, log, out, work));
         self.buffers(answer, log, out, work);
         (answer.number, answer.value) = self.refusal(log.lent(), answer.number, answer.value);
         match (self.0, answer.number) {
             (Fault::CopyCount, 0) => answer.value += 1,
             (Fault::BehindCopy, 0) => change_at(out.lent_mut(), answer.value),
-            (Fault::CopyNeed, 11) => answer.value = copy_need(so_far(log.lent()).len()),
-            (Fault::NeedNoLong, 11) => answer.value = copy_need(to_words_counted(log.lent())),
+            (Fault::CopyNeed, 11) => answer.value = copy_need(so_far(log.lent()).len(), voices_words(log.lent())),
+            (Fault::NeedNoLong, 11) => answer.value = copy_need(to_words_counted(log.lent()), voices_words(log.lent())),
             (Fault::TwelveFirst, 11) if work.len() < WORK => answer = Answer { number: 12, value: WORK },
             (Fault::TwelveLength, 12) => answer.value = work.len(),
+            (fault, 11) => answer.value = voice_faults::copy_needed(fault, Service::FairCopy, log.lent()).unwrap_or(answer.value),
             (fault, 0) if in_order(log.lent()).is_ok() => {
                 let mut copy = out.lent()[..answer.value].to_vec();
                 altered_copy(fault, log.lent(), &mut copy);
@@ -992,17 +1136,17 @@ impl Services for Faulty {
     }
 
     fn trimmed_copy(&mut self, door: Door, log: &mut Lent, out: &mut Lent, work: &mut Lent) -> Answer {
-        let mut answer = self.misread(Service::TrimmedCopy, log, |log| Library.trimmed_copy(door, log, out, work));
+        let mut answer = self.misread(Service::TrimmedCopy, log, |services, log| services.trimmed_copy(door, log, out, work));
         self.buffers(answer, log, out, work);
         (answer.number, answer.value) = self.refusal(log.lent(), answer.number, answer.value);
         let words = log.lent();
         match (self.0, answer.number) {
             (Fault::TrimCount, 0) => answer.value += 1,
             (Fault::TrimBehind, 0) => change_at(out.lent_mut(), answer.value),
-            (Fault::TrimNeed, 11) => answer.value = copy_need(so_far(words).len()),
-            (Fault::TrimNeedNoLong, 11) => answer.value = copy_need(to_words_counted(words)),
+            (Fault::TrimNeed, 11) => answer.value = copy_need(so_far(words).len(), voices_words(words)),
+            (Fault::TrimNeedNoLong, 11) => answer.value = copy_need(to_words_counted(words), voices_words(words)),
             (Fault::TrimNeedOwn, 11) => {
-                if let Some(copy) = trimmed_words(words) {
+                if let Some(copy) = trimmed_copy_of(words) {
                     let short = Answer { number: 11, value: copy.len() };
                     answer = give_trimmed(&copy, out, work).unwrap_or(short);
                 }
@@ -1010,12 +1154,12 @@ impl Services for Faulty {
             (Fault::TrimTenUnasked, 10) => {
                 let mut right = words.to_vec();
                 right[answer.value] = word(END, to_words(words));
-                if let Some(copy) = trimmed_words(&right) {
+                if let Some(copy) = in_order(&right).ok().and_then(|_| trimmed_copy_of(&right)) {
                     answer = give_trimmed(&copy, out, work).unwrap_or(answer);
                 }
             }
             (Fault::TrimLoopCopied, 13) => {
-                let copy = copy_words(0, episodes(words[0]), &least(&noted(words)));
+                let copy = copy_words(0, &voices_of(words), &least(&noted(words)));
                 if rewrite(out, answer.value + 1, &copy) {
                     answer = Answer { number: 0, value: copy.len() };
                 }
@@ -1030,6 +1174,7 @@ impl Services for Faulty {
             (Fault::TrimThirteenFirst, 11 | 12) if Graph::of(words).has_loop() => answer = Answer { number: 13, value: 1 },
             (Fault::TwelveFirst, 11) if work.len() < WORK => answer = Answer { number: 12, value: WORK },
             (Fault::TwelveLength, 12) => answer.value = work.len(),
+            (fault, 11) => answer.value = voice_faults::copy_needed(fault, Service::TrimmedCopy, words).unwrap_or(answer.value),
             (fault, 0) if in_order(words).is_ok() => {
                 let mut copy = out.lent()[..answer.value].to_vec();
                 altered_trimmed(fault, words, &mut copy);
@@ -1043,7 +1188,7 @@ impl Services for Faulty {
     }
 
     fn thread(&mut self, door: Door, report: &mut Lent, i: usize) -> ThreadAnswer {
-        let mut answer = Library.thread(door, report, i);
+        let mut answer = self.2.thread(door, report, i);
         let given = |words: &[u32], i: usize| {
             let stretch = parts(words).ok().and_then(|parts| parts.thread(i).ok());
             stretch.map(|(start, length)| ThreadAnswer { number: 0, start, length })
@@ -1070,8 +1215,12 @@ impl Services for Faulty {
                 }
             }
             (Fault::RefusedStretch, 16 | 17) => answer.start = 1,
-            (Fault::ReportChanged, 0) => changed(report.lent_mut(), 1),
+            (fault, 0) => answer = voice_faults::altered_thread(fault, words, i, answer),
+            (Fault::ApartMore, 16) => answer = voice_faults::one_apart_more(words, i).unwrap_or(answer),
             _ => {}
+        }
+        if (self.0, answer.number) == (Fault::ReportChanged, 0) {
+            changed(report.lent_mut(), 1);
         }
         answer
     }

@@ -40,6 +40,15 @@ impl Lent {
         Lent { words: vec![0; ROOM], before: vec![0; ROOM], start: WATCHED, length: 0 }
     }
 
+    /// These words alone, lent to a call.
+    pub fn of(words: &[u32]) -> Lent {
+        let mut lent = Lent::new();
+        lent.length = words.len();
+        lent.lent_mut().copy_from_slice(words);
+        lent.keep();
+        lent
+    }
+
     /// Lends `length` words, of any content.
     pub fn fill(&mut self, length: usize, filling: &Filling, random: &mut Random) {
         self.place(length, filling, random);

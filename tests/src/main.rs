@@ -11,6 +11,7 @@ mod damage;
 mod disagreement;
 mod faults;
 mod lent;
+mod model;
 mod object;
 mod program;
 mod random;
@@ -21,6 +22,8 @@ mod services;
 mod shapes;
 mod trimmed;
 mod versions;
+mod voice_faults;
+mod voices;
 mod words;
 
 use beside::Older;
@@ -33,7 +36,8 @@ cross-checks --beside LIBRARY [..]                  with one of these: an older 
 cross-checks --program PATH [--seed S]              the printing program too
 cross-checks --sample LOG                           the text stored beside a log, with .out for its ending
 cross-checks --faults                               deliberate faults, each of which must be caught
-cross-checks --fault N                              one of them, shown as a disagreement is shown";
+cross-checks --fault N                              one of them, shown as a disagreement is shown
+cross-checks --model [..]                           any of these but the program's, on a model made from the reference";
 
 /// What the command line asks for.
 pub struct Wanted {
@@ -46,6 +50,7 @@ pub struct Wanted {
     sample: Option<String>,
     faults: bool,
     fault: Option<usize>,
+    model: bool,
 }
 
 /// At least one thread, and no more than there are cores.
@@ -65,12 +70,20 @@ fn wanted() -> Result<Wanted, String> {
         sample: None,
         faults: false,
         fault: None,
+        model: false,
     };
     let mut given = std::env::args().skip(1);
     while let Some(option) = given.next() {
-        if option == "--faults" {
-            wanted.faults = true;
-            continue;
+        match option.as_str() {
+            "--faults" => {
+                wanted.faults = true;
+                continue;
+            }
+            "--model" => {
+                wanted.model = true;
+                continue;
+            }
+            _ => {}
         }
         let value = given.next().ok_or(format!("{option} needs a value"))?;
         let figure = || value.replace(['_', ','], "").parse::<u64>().map_err(|_| format!("{option} needs a number, not {value}"));
@@ -98,11 +111,11 @@ fn main() -> ExitCode {
         }
     };
     let good = if wanted.faults {
-        runs::faults()
+        runs::faults(wanted.model)
     } else if let Some(index) = wanted.fault {
-        runs::one_fault(index)
+        runs::one_fault(index, wanted.model)
     } else if let Some(seed) = wanted.round {
-        runs::one_round(seed, wanted.older)
+        runs::one_round(seed, &wanted)
     } else if let Some(log) = wanted.sample {
         program::sample(&log)
     } else {

@@ -6,11 +6,11 @@ use crate::checks::{Check, Checked, Disagreement};
 use crate::counts::{Asked, Property};
 use crate::damage;
 use crate::random::Random;
-use crate::reference::{Subject, WORK, copy_need, in_order, noted, parts, report_need};
+use crate::reference::{Graph, MOST_WITH_VOICES, Subject, WORK, copy_need, in_order, noted, parts, report_need};
 use crate::services::{ReadAnswer, Services};
 use crate::shapes::{self, Linked, any_pause, long_pause, short_pause};
-use crate::words::{LARGEST, LARGEST_PAUSE, LONGEST_COUNTED, Link, Noted, STEP, TO, head_word, kind, report, word};
-use crate::{trimmed, versions};
+use crate::words::{LARGEST, LARGEST_PAUSE, LONGEST_COUNTED, Link, Noted, STEP, Said, TO, VOICES, head_word, kind, report, word};
+use crate::{trimmed, versions, voices};
 
 /// A round of the run. All of it follows from its seed.
 pub fn round<S: Services>(caller: &mut Caller<S>, seed: u64) -> Checked<()> {
@@ -25,6 +25,9 @@ pub fn round<S: Services>(caller: &mut Caller<S>, seed: u64) -> Checked<()> {
     if random.chance(1, 20) {
         return versions::properties(caller, random);
     }
+    if random.chance(1, 24) {
+        return voices::properties(caller, random);
+    }
     if random.chance(1, 16) {
         return made_up(caller, random);
     }
@@ -37,7 +40,7 @@ pub fn round<S: Services>(caller: &mut Caller<S>, seed: u64) -> Checked<()> {
     caller.read(&subject, random)?;
     let _ = caller.links(&subject, random)?;
     let (report_need, copy_need) = match subject.reading {
-        Ok((n, t)) => (report_need(n), copy_need(t)),
+        Ok(read) => (report_need(read.n, read.voices), copy_need(read.links, read.voices)),
         Err(_) => (random.between(0, 500), random.between(0, 500)),
     };
     for _ in 0..2 {
@@ -93,12 +96,20 @@ fn made_up<S: Services>(caller: &mut Caller<S>, random: &mut Random) -> Checked<
     };
     let many = random.below(40);
     let k = random.weighted(&[(0, 1), (1, 2), (2, 3), (3, 3), (many, 1)]);
-    let apart: Vec<usize> = (0..k).map(|_| any(random)).collect();
+    let fewer = random.below(k + 1);
+    let members = random.weighted(&[(k, 3), (fewer, 3), (0, 1)]);
+    let apart: Vec<usize> = (0..members).map(|_| any(random)).collect();
     let thread = |random: &mut Random| (0..random.between(1, 4)).map(|_| any(random)).collect();
     let threads: Vec<Vec<usize>> = (0..k).map(|_| thread(random)).collect();
     let mut words = report(&apart, &threads);
     let wanted = [0, random.below(k + 1), k, k + 1, *random.pick(&HUGE)];
-    caller.threads(&words, &parts(&words), &wanted, Asked::MadeUp, random)?;
+    let asked = if members < k { Asked::FewApart } else { Asked::MadeUp };
+    caller.threads(&words, &parts(&words), &wanted, asked, random)?;
+    // One apart word more than there are threads.
+    if random.chance(1, 4) {
+        let more = report(&vec![random.below(200); k + 1], &threads);
+        caller.threads(&more, &parts(&more), &wanted[..2], Asked::DamagedLayout, random)?;
+    }
     for _ in 0..random.between(1, 3) {
         damage::to_report(&mut words, random);
         caller.threads(&words, &parts(&words), &wanted[..2], Asked::DamagedLayout, random)?;
@@ -131,7 +142,7 @@ pub fn properties<S: Services>(caller: &mut Caller<S>, random: &mut Random) -> C
         Err(Box::new(Disagreement { service: "properties", found, lengths: String::new(), words: subject.words.clone() }))
     };
     if copy != other || copy.is_err() {
-        return differ(Check::SameCopy, "the copies of two logs with the same links and least pauses differ", &same);
+        return differ(Check::SameCopy, "the copies of two logs with the same links, least pauses and voices differ", &same);
     }
     let copy = copy.unwrap_or_default();
     let gave = reported(caller, &first, random)?;
@@ -144,8 +155,13 @@ pub fn properties<S: Services>(caller: &mut Caller<S>, random: &mut Random) -> C
     let least: Vec<Noted> = linked.least().into_iter().map(|((from, to), pause)| (from, to, pause)).collect();
     let due = ReadAnswer { number: 0, place: 0, episodes: linked.n, links: least.len() };
     let head = head_word(linked.version, linked.n);
-    if caller.read(&back, random)? != due || in_order(&copy).is_err() || copy[0] != head || noted(&copy) != least {
-        return differ(Check::ReadBack, "the copy has another version, another n, other links or other pauses", &first);
+    let same_voices = |copy: &[u32]| Graph::of(copy).voices == linked.voices();
+    if caller.read(&back, random)? != due
+        || in_order(&copy).is_err()
+        || (copy[0], noted(&copy)) != (head, least)
+        || !same_voices(&copy)
+    {
+        return differ(Check::ReadBack, "the copy has another version, another n, other links, pauses or voices", &first);
     }
 
     caller.counts.property(Property::CopyOfCopy);
@@ -196,7 +212,7 @@ pub fn properties<S: Services>(caller: &mut Caller<S>, random: &mut Random) -> C
             return differ(Check::OtherCount, "a link more, and not one more in the link count if it counts", &more);
         }
     }
-    if linked.n < 200 {
+    if linked.n < linked.most() {
         caller.counts.property(Property::EpisodeMore);
         let more = Subject::new(shapes::written(&Linked { n: linked.n + 1, ..linked.clone() }, random));
         if copied(caller, &more, random)?.is_ok_and(|other| other == copy) {
@@ -250,7 +266,7 @@ fn other_pauses(linked: &Linked, random: &mut Random) -> Linked {
         (_, true) => long_pause(random),
         (_, false) => short_pause(random),
     };
-    Linked { links: linked.links.iter().map(|&(from, to, pause)| (from, to, other(pause))).collect(), ..*linked }
+    Linked { links: linked.links.iter().map(|&(from, to, pause)| (from, to, other(pause))).collect(), ..linked.clone() }
 }
 
 /// Whether two calls gave the same width and apart set, or both a loop.
@@ -262,7 +278,16 @@ pub fn alike(one: &Gave, other: &Gave) -> bool {
     }
 }
 
-/// The same set of links with the same least pauses, with other repeats. Most of these have other pauses.
+/// Voices words that give the same voices, in another order; some that say 1 are there or not there.
+fn said_again(linked: &Linked, random: &mut Random) -> Vec<Said> {
+    let mut said: Vec<Said> = linked.voices().into_iter().enumerate().collect();
+    let some = linked.n <= MOST_WITH_VOICES && random.chance(1, 2);
+    said.retain(|said| said.1 != 1 || (some && random.chance(1, 2)));
+    random.shuffle(&mut said);
+    said
+}
+
+/// The same set of links with the same least pauses, with other repeats, and the same voices. Most of these have other pauses.
 pub fn again(linked: &Linked, random: &mut Random) -> Linked {
     let least = linked.least();
     let longer = |pause: usize, random: &mut Random| match random.below(4) {
@@ -288,7 +313,7 @@ pub fn again(linked: &Linked, random: &mut Random) -> Linked {
         }
         random.shuffle(&mut links);
     }
-    Linked { links, ..*linked }
+    Linked { links, said: said_again(linked, random), ..*linked }
 }
 
 /// The same set of links, one of them with another least pause: its to words below a longer pause are raised to it, or
@@ -309,7 +334,7 @@ fn other_pause(linked: &Linked, random: &mut Random) -> Option<Linked> {
     } else {
         links[at].2 = if random.chance(1, 2) { least - 1 } else { random.below(least) };
     }
-    Some(Linked { links, ..*linked })
+    Some(Linked { links, ..linked.clone() })
 }
 
 pub fn copied<S: Services>(caller: &mut Caller<S>, subject: &Subject, random: &mut Random) -> Checked<Copied> {
@@ -319,11 +344,11 @@ pub fn copied<S: Services>(caller: &mut Caller<S>, subject: &Subject, random: &m
 
 /// Lengths that suffice for a copy.
 pub fn copy_lengths(subject: &Subject, random: &mut Random) -> Lengths {
-    let links = subject.words.iter().filter(|&&given| kind(given) == TO).count();
-    Lengths { out: copy_need(links) + random.below(3), work: WORK + random.below(3) }
+    let words = |wanted: u32| subject.words.iter().filter(|&&given| kind(given) == wanted).count();
+    Lengths { out: copy_need(words(TO), words(VOICES)) + random.below(3), work: WORK + random.below(3) }
 }
 
 pub fn reported<S: Services>(caller: &mut Caller<S>, subject: &Subject, random: &mut Random) -> Checked<Gave> {
-    let lengths = Lengths { out: report_need(200) + random.below(3), work: WORK + random.below(3) };
+    let lengths = Lengths { out: report_need(200, 0) + random.below(3), work: WORK + random.below(3) };
     caller.report(subject, lengths, random)
 }

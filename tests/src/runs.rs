@@ -5,10 +5,11 @@ use crate::beside::{Beside, Older};
 use crate::calls::Caller;
 use crate::checks::{CHECKS, Check, Checked, Disagreement, name};
 use crate::counts::{Counts, grouped};
-use crate::faults::{FAULTS, Fault, Faulty};
+use crate::faults::{FAULTS, Faulty};
+use crate::model::Model;
 use crate::random::{Random, round_seed};
 use crate::services::{Library, Services};
-use crate::{cases, disagreement, program, rounds, trimmed, versions};
+use crate::{cases, disagreement, program, rounds, trimmed, versions, voices};
 use std::panic::{AssertUnwindSafe, catch_unwind};
 use std::sync::atomic::{AtomicBool, Ordering};
 use std::time::Instant;
@@ -44,9 +45,11 @@ fn random_calls(services: impl Services, calls: u64, seed: u64, thread: usize, s
 
 /// The cases, then the random calls, then the table; beside an older build where one is given.
 pub fn checks(wanted: &Wanted) -> bool {
-    match wanted.older {
-        Some(older) => checks_of(wanted, || Beside::new(Library, older)),
-        None => checks_of(wanted, || Library),
+    match (wanted.older, wanted.model) {
+        (Some(older), false) => checks_of(wanted, || Beside::new(Library, older)),
+        (Some(older), true) => checks_of(wanted, || Beside::new(Model, older)),
+        (None, false) => checks_of(wanted, || Library),
+        (None, true) => checks_of(wanted, || Model),
     }
 }
 
@@ -99,6 +102,9 @@ fn checks_of<S: Services>(wanted: &Wanted, services: impl Fn() -> S + Sync) -> b
         if !older.has_versions() {
             println!("the older build has no versions, so calls on logs of another version than 0 were not compared");
         }
+        if !older.has_voices() {
+            println!("the older build has no voices, so calls on logs with a voices word behind the head were not compared");
+        }
     }
     if wanted.calls < DEFAULT_CALLS {
         println!("fewer than {} calls: it is not asked how often everything was met", grouped(DEFAULT_CALLS));
@@ -115,10 +121,12 @@ fn checks_of<S: Services>(wanted: &Wanted, services: impl Fn() -> S + Sync) -> b
 }
 
 /// One round again.
-pub fn one_round(seed: u64, older: Option<Older>) -> bool {
-    match older {
-        Some(older) => round_of(Beside::new(Library, older), seed),
-        None => round_of(Library, seed),
+pub fn one_round(seed: u64, wanted: &Wanted) -> bool {
+    match (wanted.older, wanted.model) {
+        (Some(older), false) => round_of(Beside::new(Library, older), seed),
+        (Some(older), true) => round_of(Beside::new(Model, older), seed),
+        (None, false) => round_of(Library, seed),
+        (None, true) => round_of(Model, seed),
     }
 }
 
@@ -137,13 +145,18 @@ fn round_of(services: impl Services, seed: u64) -> bool {
 }
 
 /// Calls with one fault, so that it can be seen how a disagreement is shown.
-pub fn one_fault(index: usize) -> bool {
+pub fn one_fault(index: usize, model: bool) -> bool {
     let Some(&(fault, what)) = FAULTS.get(index) else {
         println!("there are {} faults, from 0", FAULTS.len());
         return false;
     };
     println!("a deliberate fault: {what}");
-    random_calls(Faulty::new(fault), DEFAULT_CALLS, 1, 0, &AtomicBool::new(false)).1
+    let stop = AtomicBool::new(false);
+    let made = match model {
+        false => random_calls(Faulty::new(fault, Library), DEFAULT_CALLS, 1, 0, &stop),
+        true => random_calls(Faulty::new(fault, Model), DEFAULT_CALLS, 1, 0, &stop),
+    };
+    made.1
 }
 
 /// The checks that catch a fault within the default number of calls, and after how many.
@@ -164,8 +177,8 @@ fn names(found: &Disagreement) -> Vec<Check> {
 }
 
 /// The properties alone, and the worked cases alone: without the reference.
-fn bare_catch(fault: Fault) -> Vec<Check> {
-    let mut caller = Caller::new(Faulty::new(fault));
+fn bare_catch(faulty: impl Services) -> Vec<Check> {
+    let mut caller = Caller::new(faulty);
     caller.bare = true;
     let mut caught = Vec::new();
     for seed in 0..200 {
@@ -178,6 +191,9 @@ fn bare_catch(fault: Fault) -> Vec<Check> {
         if let Err(found) = guarded(&mut caller, |caller| versions::properties(caller, &mut Random::new(seed))) {
             caught.extend(names(&found));
         }
+        if let Err(found) = guarded(&mut caller, |caller| voices::properties(caller, &mut Random::new(seed))) {
+            caught.extend(names(&found));
+        }
     }
     if let Err(found) = guarded(&mut caller, cases::all) {
         caught.extend(names(&found));
@@ -186,14 +202,19 @@ fn bare_catch(fault: Fault) -> Vec<Check> {
 }
 
 /// What catches a fault where the library without it is the older build, and the reference is not asked.
-fn older_catch(fault: Fault) -> Vec<Check> {
-    let mut caller = Caller::new(Beside::new(Faulty::new(fault), Older::linked()));
+fn older_catch(faulty: impl Services, older: Older) -> Vec<Check> {
+    let mut caller = Caller::new(Beside::new(faulty, older));
     caller.bare = true;
     random_catch(caller).map_or(Vec::new(), |caught| caught.1)
 }
 
-/// Runs every fault. Each must be caught, and each check must catch at least one.
-pub fn faults() -> bool {
+/// Runs every fault, in the library or in the model. Each must be caught, and each check must catch at least one.
+pub fn faults(model: bool) -> bool {
+    let services = if model { faults_of(|| Model, Older::model()) } else { faults_of(|| Library, Older::linked()) };
+    program::faults(!model) && services
+}
+
+fn faults_of<S: Services>(services: impl Fn() -> S, older: Older) -> bool {
     let mut good = true;
     let mut caught: Vec<Check> = Vec::new();
     let listed = |checks: &[Check]| checks.iter().map(|&check| name(check)).collect::<Vec<_>>().join(", ");
@@ -201,8 +222,8 @@ pub fn faults() -> bool {
     std::panic::set_hook(Box::new(|_| {}));
     println!("number | fault | calls | caught by | by properties and worked cases alone");
     for (index, &(fault, what)) in FAULTS.iter().enumerate() {
-        let alone = bare_catch(fault);
-        match random_catch(Caller::new(Faulty::new(fault))) {
+        let alone = bare_catch(Faulty::new(fault, services()));
+        match random_catch(Caller::new(Faulty::new(fault, services()))) {
             Some((calls, checks)) => {
                 let alone_text = if alone.is_empty() { "-".to_string() } else { listed(&alone) };
                 println!("{index} | {what} | {calls} | {} | {alone_text}", listed(&checks));
@@ -214,19 +235,18 @@ pub fn faults() -> bool {
             }
         }
         caught.extend(alone);
-        let older = older_catch(fault);
-        if !older.iter().any(|check| matches!(check, Check::Older | Check::Ends)) {
+        let beside = older_catch(Faulty::new(fault, services()), older);
+        if !beside.iter().any(|check| matches!(check, Check::Older | Check::Ends)) {
             println!("{index} | {what} | NOT CAUGHT beside the library without it | - | -");
             good = false;
         }
-        caught.extend(older);
+        caught.extend(beside);
     }
     for (check, name, _) in CHECKS.iter().filter(|row| !caught.contains(&row.0)) {
         println!("NO FAULT is caught by the check {name} ({check:?})");
         good = false;
     }
     drop(std::panic::take_hook());
-    good &= program::faults();
     if good {
         println!("{} faults, each caught; {} checks, each of which caught a fault", FAULTS.len(), CHECKS.len());
     }

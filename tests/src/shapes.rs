@@ -3,8 +3,9 @@
 use crate::counts::{Damage, Shape};
 use crate::damage;
 use crate::random::Random;
-use crate::words::{END, FROM, HEAD, LARGEST_PAUSE, LONGEST_COUNTED, Link, Noted, TO};
-use crate::words::{head_word, in_version, kind, log, pause, to_word, word};
+use crate::reference::{self, MOST_WITH_VOICES};
+use crate::words::{END, FROM, HEAD, LARGEST_PAUSE, LARGEST_VOICES, LONGEST_COUNTED, Link, MOST_VOICES, Noted, Said, TO, VOICES};
+use crate::words::{head_word, in_version, kind, log, pause, to_word, with_voices, word};
 use std::collections::BTreeMap;
 
 /// A log, its shape, and the damage that was done to it.
@@ -14,11 +15,13 @@ pub struct Made {
     pub damage: Vec<Damage>,
 }
 
-/// Links between episodes below n, with pauses and repeats, in the order in which a log of this version gives them.
+/// Links between episodes below n, with pauses and repeats, and voices of some of these, in the order in which a log of this
+/// version gives them.
 #[derive(Clone)]
 pub struct Linked {
     pub version: usize,
     pub n: usize,
+    pub said: Vec<Said>,
     pub links: Vec<Noted>,
 }
 
@@ -31,6 +34,16 @@ impl Linked {
             *known = pause.min(*known);
         }
         least
+    }
+
+    /// The voices of each episode.
+    pub fn voices(&self) -> Vec<usize> {
+        reference::voices(self.n, &self.said)
+    }
+
+    /// The most episodes that a log with these voices words, or without, can have.
+    pub fn most(&self) -> usize {
+        if self.said.is_empty() { MOST_EPISODES } else { MOST_WITH_VOICES }
     }
 
     /// Whether a link with this least pause counts.
@@ -60,8 +73,9 @@ pub fn any(random: &mut Random) -> Made {
         (Shape::Repeats, 60),
         (Shape::Loops, 70),
         (Shape::Full, 50),
-        (Shape::Ceilings, 70),
-        (Shape::Damaged, 210),
+        (Shape::FullVoices, 25),
+        (Shape::Ceilings, 90),
+        (Shape::Damaged, 300),
         (Shape::Scrap, 80),
     ]);
     let mut damage = Vec::new();
@@ -69,17 +83,53 @@ pub fn any(random: &mut Random) -> Made {
         Shape::Ceilings => ceilings(random),
         Shape::Scrap => scrap(random),
         Shape::Damaged => {
-            let full = random.chance(1, 50);
-            let linked = if full { linked(Shape::Full, random) } else { passing(random).1 };
+            let linked = match random.below(100) {
+                0 | 1 => linked(Shape::Full, random),
+                2 => linked(Shape::FullVoices, random),
+                _ => passing(random).1,
+            };
             let mut words = written(&linked, random);
             for _ in 0..random.weighted(&[(1, 6), (2, 3), (3, 1), (8, 1)]) {
                 damage.push(damage::to_log(&mut words, random));
             }
             words
         }
-        _ => written(&linked(shape, random), random),
+        _ => {
+            let mut linked = linked(shape, random);
+            if linked.n > MOST_WITH_VOICES && random.chance(1, 8) {
+                linked.said = said(linked.n, random);
+            }
+            written(&linked, random)
+        }
     };
     Made { words, shape, damage }
+}
+
+/// Voices words for some episodes, each with voices that can be, in any order.
+pub fn said(n: usize, random: &mut Random) -> Vec<Said> {
+    let one = random.below(MOST_VOICES + 1);
+    let few = random.between(1, 3).min(n);
+    let all = |voices: usize| (0..n).map(|v| (v, voices)).collect();
+    let mut said: Vec<Said> = match random.below(16) {
+        0 | 1 => all(0),
+        2 | 3 => all(2),
+        4 => all(1),
+        5 => (0..n).map(|v| (v, 2 * random.below(2))).collect(),
+        6..=8 => (0..n).map(|v| (v, random.below(MOST_VOICES + 1))).collect(),
+        9 | 10 => (0..n).filter(|_| random.chance(1, 3)).map(|v| (v, one)).collect(),
+        11..=13 => (0..n).map(|v| (v, random.weighted(&[(0, 1), (1, 2), (2, 1)]))).filter(|said| said.1 != 1).collect(),
+        _ => {
+            let mut all: Vec<usize> = (0..n).collect();
+            random.shuffle(&mut all);
+            all[..few].iter().map(|&v| (v, random.below(MOST_VOICES + 1))).collect()
+        }
+    };
+    match random.below(3) {
+        0 => {}
+        1 => said.reverse(),
+        _ => random.shuffle(&mut said),
+    }
+    said
 }
 
 /// Links of a shape that passes.
@@ -104,7 +154,7 @@ pub fn written(linked: &Linked, random: &mut Random) -> Vec<u32> {
         }
     }
     let splits = *random.pick(&[0, 0, 4, 16]);
-    in_version(linked.version, log(linked.n, &links, splits, random))
+    with_voices(&linked.said, in_version(linked.version, log(linked.n, &links, splits, random)))
 }
 
 fn size(random: &mut Random) -> usize {
@@ -133,6 +183,7 @@ pub fn linked(shape: Shape, random: &mut Random) -> Linked {
     let n = match shape {
         Shape::Tiny => random.between(0, 4),
         Shape::Full => MOST_EPISODES,
+        Shape::FullVoices => MOST_WITH_VOICES,
         _ => size(random),
     };
     let mut links = match shape {
@@ -155,17 +206,18 @@ pub fn linked(shape: Shape, random: &mut Random) -> Linked {
             let once = forward(n, count, random);
             once.iter().flat_map(|&link| std::iter::repeat_n(link, random.between(1, 4))).collect()
         }
-        Shape::Full => full(random),
+        Shape::Full | Shape::FullVoices => full(n, random),
         _ => {
             let count = random.between(n / 2, 2 * n);
             forward(n, count, random)
         }
     };
-    if shape == Shape::Loops || (shape == Shape::Full && random.chance(1, 8)) {
+    let is_full = matches!(shape, Shape::Full | Shape::FullVoices);
+    if shape == Shape::Loops || (is_full && random.chance(1, 8)) {
         add_loops(n, &mut links, random);
     }
     links.truncate(MOST_LINKS);
-    if shape == Shape::Full {
+    if is_full {
         while links.len() < MOST_LINKS {
             links.push(*random.pick(&links));
         }
@@ -183,7 +235,9 @@ pub fn linked(shape: Shape, random: &mut Random) -> Linked {
         random.shuffle(&mut names);
         links = links.iter().map(|&(from, to, pause)| (names[from], names[to], pause)).collect();
     }
-    Linked { version: random.below(2), n, links }
+    let voiced = shape == Shape::FullVoices || (n <= MOST_WITH_VOICES && random.chance(1, 2));
+    let said = if voiced && n > 0 { said(n, random) } else { Vec::new() };
+    Linked { version: random.below(2), n, said, links }
 }
 
 /// Pauses at both ends and around the longest with which a link of version 1 counts.
@@ -322,9 +376,8 @@ fn add_loops(n: usize, links: &mut Vec<Link>, random: &mut Random) {
     }
 }
 
-/// Links on 200 episodes, of several kinds; they are cut or repeated to 4,096 afterwards.
-fn full(random: &mut Random) -> Vec<Link> {
-    let n = MOST_EPISODES;
+/// Links on the most episodes, of several kinds; they are cut or repeated to 4,096 afterwards.
+fn full(n: usize, random: &mut Random) -> Vec<Link> {
     match random.below(9) {
         0 => forward(n, MOST_LINKS, random),
         1 => (0..MOST_LINKS).map(|_| (random.below(n / 2), n / 2 + random.below(n / 2))).collect(),
@@ -358,13 +411,36 @@ fn full(random: &mut Random) -> Vec<Link> {
     }
 }
 
+/// More voices than an episode can have; few, those with one bit, and those that the low 2 bits take for fewer are met often.
+pub fn any_voices(random: &mut Random) -> usize {
+    match random.below(5) {
+        0 | 1 => 3,
+        2 => 1 << random.between(2, 11),
+        3 => 4 * random.between(1, 1_023) + random.below(3),
+        _ => random.between(3, LARGEST_VOICES),
+    }
+}
+
 /// More episodes than a log has, and the most that a head can give.
 pub const MANY: [usize; 7] = [201, 202, 255, 256, 65_536, 65_537, (1 << 24) - 1];
 
-/// Logs with 199 to 202 episodes or more, or with 4,095 to words or more.
+/// Logs with 199 to 202 episodes or more, with 119 to 122 and voices words, or with 4,095 to words or more.
 fn ceilings(random: &mut Random) -> Vec<u32> {
     let any = random.below(16);
     let version = random.weighted(&[(0, 4), (1, 4), (any, 1)]);
+    if random.chance(1, 4) {
+        let n = random.between(119, 122);
+        let links = forward(n, random.below(200), random);
+        let words = log(n, &noted(&links, random), 4, random);
+        let mut said = said(n, random);
+        // Voices words that earn other refusals: an episode that is not there, more voices than can be, the same episode again.
+        for _ in 0..random.below(3) {
+            let odd =
+                [(n + random.below(3), 1), (random.below(n), any_voices(random)), (random.below(n), random.below(3)), (n, 3)];
+            said.insert(random.below(said.len() + 1), *random.pick(&odd));
+        }
+        return in_version(version, with_voices(&said, words));
+    }
     if random.chance(1, 2) {
         let n = if random.chance(1, 3) { random.between(199, 200) } else { *random.pick(&MANY) };
         let count = random.between(0, 20);
@@ -394,11 +470,22 @@ fn scrap(random: &mut Random) -> Vec<u32> {
     let count = random.between(0, 9);
     let mut words: Vec<u32> = (0..count)
         .map(|_| {
-            let kind = random.weighted(&[(HEAD, 1), (FROM, 6), (TO, 9), (END, 1), (0, 1), (9, 1)]);
-            let paused = random.chance(1, if kind == TO { 2 } else { 16 });
-            word(kind, random.below(4)) | if paused { word(0, any_pause(random) << 16) } else { 0 }
+            let kind = random.weighted(&[(HEAD, 1), (FROM, 6), (TO, 9), (END, 1), (0, 1), (VOICES, 5)]);
+            let high = match kind {
+                TO if random.chance(1, 2) => any_pause(random),
+                VOICES if random.chance(1, 8) => any_voices(random),
+                VOICES => random.below(MOST_VOICES + 1),
+                _ if random.chance(1, 16) => any_pause(random),
+                _ => 0,
+            };
+            word(kind, random.below(4)) | word(0, high << 16)
         })
         .collect();
+    // Voices words stand in front of the groups in most logs.
+    if words.len() > 2 && random.chance(3, 4) {
+        let last = words.len() - 1;
+        words[1..last].sort_by_key(|&given| kind(given) != VOICES);
+    }
     if let [first, .., last] = &mut words[..] {
         if random.chance(9, 10) {
             let any = random.below(16);

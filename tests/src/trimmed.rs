@@ -167,7 +167,7 @@ impl Given {
                 }
             }
         }
-        again(&Linked { version, n, links: noted }, random)
+        again(&Linked { version, n, said: self.linked.said.clone(), links: noted }, random)
     }
 
     /// The log with one link more that counts, between episodes of which none has a way to the other.
@@ -181,7 +181,7 @@ impl Given {
         let mut links = self.linked.links.clone();
         let pause = if self.linked.version == 0 { shapes::any_pause(random) } else { short_pause(random) };
         links.insert(random.below(links.len() + 1), (from, to, pause));
-        Some(Linked { links, ..self.linked })
+        Some(Linked { links, ..self.linked.clone() })
     }
 
     /// The log without one of the links that are not implied; in version 1 it can be there with long pauses, and not count.
@@ -198,7 +198,7 @@ impl Given {
         } else {
             links.retain(|link| !is_out(link));
         }
-        Some(Linked { links, ..self.linked })
+        Some(Linked { links, ..self.linked.clone() })
     }
 }
 
@@ -232,7 +232,7 @@ fn other_ways<S: Services>(caller: &mut Caller<S>, given: &Given, found: &mut Fo
     let more = given.with_way_more(random).map(|linked| (Property::WayMore, shapes::written(&linked, random)));
     let fewer = given.with_way_fewer(random).map(|linked| (Property::WayFewer, shapes::written(&linked, random)));
     let longer = Linked { n: n + 1, ..given.linked.clone() };
-    let episode = (n < 200).then(|| (Property::TrimmedEpisode, shapes::written(&longer, random)));
+    let episode = (n < given.linked.most()).then(|| (Property::TrimmedEpisode, shapes::written(&longer, random)));
     for (property, words) in [more, fewer, episode].into_iter().flatten() {
         caller.counts.property(property);
         let subject = Subject::new(words);

@@ -9,24 +9,24 @@ use crate::rounds::{again, alike, copied, reported};
 use crate::services::Services;
 use crate::shapes::{self, Linked, any_pause, short_pause};
 use crate::trimmed::{in_words, trimmed};
-use crate::words::{END, FROM, Noted, TO, episode, in_version, kind, number, word};
+use crate::words::{END, FROM, Noted, TO, VOICES, episode, in_version, kind, number, word};
 
 /// What the calls on one log gave.
-struct Given {
-    count: Counted,
-    report: Gave,
-    trimmed: Trimmed,
+pub struct Given {
+    pub count: Counted,
+    pub report: Gave,
+    pub trimmed: Trimmed,
 }
 
 impl Given {
-    fn by<S: Services>(caller: &mut Caller<S>, subject: &Subject, random: &mut Random) -> Checked<Given> {
+    pub fn by<S: Services>(caller: &mut Caller<S>, subject: &Subject, random: &mut Random) -> Checked<Given> {
         let count = caller.links(subject, random)?;
         let report = reported(caller, subject, random)?;
         Ok(Given { count, report, trimmed: trimmed(caller, subject, random)? })
     }
 
     /// Whether the calls on another log gave the same, word for word.
-    fn same(&self, other: &Given) -> bool {
+    pub fn same(&self, other: &Given) -> bool {
         let words = match (&self.report, &other.report) {
             (Gave::Report(_, one), Gave::Report(_, two)) | (Gave::Loop(one), Gave::Loop(two)) => one == two,
             _ => false,
@@ -96,7 +96,7 @@ fn both_versions<S: Services>(
 fn short_pauses<S: Services>(caller: &mut Caller<S>, linked: &Linked, found: &mut Found, random: &mut Random) -> Checked<()> {
     caller.counts.property(Property::ShortPauses);
     let links = linked.links.iter().map(|&(from, to, _)| (from, to, short_pause(random))).collect();
-    let words = shapes::written(&Linked { links, ..*linked }, random);
+    let words = shapes::written(&Linked { links, ..linked.clone() }, random);
     let [zero, one] = [0, 1].map(|version| Subject::new(in_version(version, words.clone())));
     let same = Given::by(caller, &zero, random)?.same(&Given::by(caller, &one, random)?);
     found.ask(Check::ShortPauses, same, || format!("not the same in version 0 for {}", in_words(&one)));
@@ -119,6 +119,7 @@ fn without_long(linked: &Linked, words: &[u32]) -> Vec<u32> {
                 (group, count) = (true, count + 1);
             }
             TO => {}
+            VOICES => kept.push(given),
             _ => (from, group) = (number(given), false),
         }
     }
@@ -157,7 +158,7 @@ fn version_zero<S: Services>(
     caller.counts.property(Property::ZeroPauses);
     let mut links: Vec<Noted> = again(linked, random).links;
     links.iter_mut().for_each(|link| link.2 = any_pause(random));
-    let other = Subject::new(shapes::written(&Linked { version: 0, n: linked.n, links }, random));
+    let other = Subject::new(shapes::written(&Linked { version: 0, links, ..linked.clone() }, random));
     let given = Given::by(caller, &other, random)?;
     let what = || format!("other pauses and repeats in version 0: {}", in_words(&other));
     found.ask(Check::SameReport, alike(&zero.report, &given.report), what);

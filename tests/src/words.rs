@@ -10,12 +10,13 @@ pub const APART: u32 = 5;
 pub const THREAD: u32 = 6;
 pub const STEP: u32 = 7;
 pub const LOOP: u32 = 8;
+pub const VOICES: u32 = 9;
 pub const END: u32 = 15;
 
 /// The largest number that a word can have.
 pub const LARGEST: u32 = 0x0FFF_FFFF;
 
-/// How many later episodes a to word can name: its bits 0 to 15.
+/// How many episodes a to word or a voices word can name: its bits 0 to 15.
 const EPISODES: usize = 65_536;
 
 /// The largest pause that a to word can note, in minutes: its bits 16 to 27.
@@ -23,6 +24,12 @@ pub const LARGEST_PAUSE: usize = 4_095;
 
 /// The longest pause with which a link of version 1 counts, in minutes.
 pub const LONGEST_COUNTED: usize = 360;
+
+/// The most voices that a voices word can give: its bits 16 to 27.
+pub const LARGEST_VOICES: usize = 4_095;
+
+/// The most voices that an episode can have.
+pub const MOST_VOICES: usize = 2;
 
 /// How many counts of episodes a head can give: its bits 0 to 23. Its bits 24 to 27 are the version.
 const HEADS: usize = 1 << 24;
@@ -32,6 +39,9 @@ pub type Link = (usize, usize);
 
 /// A link as one to word gives it: from the first episode to the second, after a pause in minutes.
 pub type Noted = (usize, usize, usize);
+
+/// The voices of an episode as one voices word gives them: the episode, and how many voices.
+pub type Said = (usize, usize);
 
 pub fn word(kind: u32, number: usize) -> u32 {
     kind << 28 | (number as u32 & LARGEST)
@@ -50,14 +60,24 @@ pub fn to_word(episode: usize, pause: usize) -> u32 {
     word(TO, pause * EPISODES + episode)
 }
 
-/// The later episode of a to word.
-pub fn episode(to: u32) -> usize {
-    number(to) % EPISODES
+/// The later episode of a to word, or the episode of a voices word.
+pub fn episode(given: u32) -> usize {
+    number(given) % EPISODES
 }
 
 /// The pause of a to word.
 pub fn pause(to: u32) -> usize {
     number(to) / EPISODES
+}
+
+/// A voices word: the episode and its voices.
+pub fn voices_word(episode: usize, voices: usize) -> u32 {
+    word(VOICES, voices * EPISODES + episode)
+}
+
+/// The voices of a voices word.
+pub fn voices(given: u32) -> usize {
+    number(given) / EPISODES
 }
 
 /// A head: the version, and how many episodes there are.
@@ -78,6 +98,12 @@ pub fn episodes(head: u32) -> usize {
 /// The log with this version in its head.
 pub fn in_version(version: usize, mut log: Vec<u32>) -> Vec<u32> {
     log[0] = head_word(version, episodes(log[0]));
+    log
+}
+
+/// The log with these voices words behind its head.
+pub fn with_voices(said: &[Said], mut log: Vec<u32>) -> Vec<u32> {
+    log.splice(1..1, said.iter().map(|&(episode, voices)| voices_word(episode, voices)));
     log
 }
 
@@ -114,7 +140,7 @@ pub fn log(n: usize, links: &[Noted], splits: usize, random: &mut Random) -> Vec
 
 /// The words of a report, from its parts.
 pub fn report(apart: &[usize], threads: &[Vec<usize>]) -> Vec<u32> {
-    let mut words = vec![word(WIDTH, apart.len())];
+    let mut words = vec![word(WIDTH, threads.len())];
     words.extend(apart.iter().map(|&member| word(APART, member)));
     for thread in threads {
         words.push(word(THREAD, thread.len()));

@@ -12,8 +12,8 @@ use std::process::ExitCode;
 
 use log::Log;
 use zohapy::{
-    Failure, LOG_BYTES, Refusal, Report, TrimOutcome, VERSION, WORK_WORDS, bytes_from_words, copy_words, number, trimmed_copy,
-    words_from_bytes,
+    Failure, LOG_BYTES, Refusal, Report, TrimOutcome, VERSION, WORK_WORDS, bytes_from_words, copy_words_with_voices, marks,
+    number, read, trimmed_copy, words_from_bytes,
 };
 
 const USAGE: &str = "\
@@ -28,12 +28,14 @@ usage: zohapy-tool COMMAND [FILE]
 
 Without FILE, or where it is -, standard input is read. The answer goes to standard output.
 
-The text form has a line `version V` unless the version is 0, a line `episodes N`, then a line for each link, again where it is
-given again: `A-B`, or `A-B M` with its pause of M minutes. Blank lines and lines that start with # are passed over. `bytes` does not
-ask whether the log would be accepted. `text` asks questions 1 to 10 and 18, and `picture` also shows a loop. The picture's heading
-counts each link once; links that do not count, those of version 1 with a least pause over 360 minutes, are dotted and not counted.
-The trimmed copy has only those links A-B that count and for which no other path of such links leads from A to B, in version 0 and
-without pauses. A log with a loop has none: `trim` refuses it and prints the loop too.
+The text form has a line `version V` unless the version is 0, a line `episodes N`, a line `voices E C` for each voices word, which
+gives the episode E C voices, then a line for each link, again where it is given again: `A-B`, or `A-B M` with its pause of M
+minutes. Blank lines and lines that start with # are passed over. `bytes` does not ask whether the log would be accepted. `text` asks
+questions 1 to 10 and 18 to 21, and `picture` also shows a loop. The picture's heading counts each link once; links that do not
+count, those of version 1 with a least pause over 360 minutes, are dotted and not counted. A duet, of two voices, is a dot in a
+circle, and a door, of none, an open circle. The trimmed copy has the voices and only those links A-B that count and for which no
+other path of such links leads from A to B, in version 0 and without pauses. A log with a loop has none: `trim` refuses it and prints
+the loop too.
 
 exit status: 0; 1 where the log is refused, with `refused N at P` on standard error; 2 on any other trouble.
 ";
@@ -127,7 +129,7 @@ fn picture(input: &mut dyn Read) -> Result<Vec<u8>, Trouble> {
 /// The bytes of a log's trimmed copy from its bytes.
 fn trim(input: &mut dyn Read) -> Result<Vec<u8>, Trouble> {
     let words = words(input)?;
-    let mut out = vec![0; copy_words(zohapy::read(&words)?.links)];
+    let mut out = vec![0; copy_words_with_voices(read(&words)?.links, marks(&words)?.len())];
     match trimmed_copy(&words, &mut out, &mut vec![0; WORK_WORDS]) {
         TrimOutcome::Trimmed(count) => Ok(bytes_from_words(&out[..count])),
         TrimOutcome::Loop(length) => Err(Failure::Loop(out[1..=length].iter().map(|word| number(*word)).collect()).into()),
@@ -180,6 +182,33 @@ mod tests {
     }
 
     #[test]
+    fn voices_from_text_to_bytes_to_text() {
+        let given = &b"episodes 5\nvoices 3 2\nvoices 0 1\nvoices 1 0\n0-1 45\n2-3\n"[..];
+        let made = bytes(&mut { given }).expect("a text form");
+        assert_eq!(made[4..8], [3, 0, 2, 0x90]);
+        assert_eq!(text(&mut &made[..]), Ok(given.to_vec()));
+        // The trimmed copy has those other than 1, rising.
+        assert_eq!(trim(&mut &made[..]), bytes(&mut &b"episodes 5\nvoices 1 0\nvoices 3 2\n0-1\n2-3\n"[..]));
+        let svg = String::from_utf8(picture(&mut &made[..]).expect("the log has a report")).expect("text");
+        assert!(svg.contains("class=\"duet\"") && svg.contains("class=\"door\""));
+    }
+
+    #[test]
+    fn wrong_voices_are_refused() {
+        for (given, number, place) in [
+            (&b"episodes 121\nvoices 0 1\n"[..], 20, 1),
+            (b"episodes 5\nvoices 5 3\n", 7, 1),
+            (b"episodes 5\nvoices 1 2\nvoices 1 3\n", 19, 2),
+            (b"episodes 5\nvoices 1 2\nvoices 1 2\n", 21, 2),
+        ] {
+            let made = bytes(&mut { given }).expect("a text form");
+            assert_eq!(text(&mut &made[..]), refused(number, place));
+            assert_eq!(picture(&mut &made[..]), refused(number, place));
+            assert_eq!(trim(&mut &made[..]), refused(number, place));
+        }
+    }
+
+    #[test]
     fn a_version_that_is_neither_0_nor_1_is_refused() {
         for version in 2..16 {
             let made = bytes(&mut format!("version {version}\nepisodes 201\n0-1\n").as_bytes()).expect("a text form");
@@ -214,6 +243,8 @@ mod tests {
     fn a_wrong_text_has_status_2() {
         let trouble = bytes(&mut &b"episodes 5\n0-1\nversion 1\n"[..]).expect_err("the version stands behind a link");
         assert_eq!((trouble.status, trouble.message.starts_with("line 3: expected version V")), (2, true));
+        let trouble = bytes(&mut &b"episodes 5\n0-1\nvoices 1 2\n"[..]).expect_err("the voices stand behind a link");
+        assert_eq!((trouble.status, trouble.message.starts_with("line 3: expected voices E C")), (2, true));
         for wrong in [&b"episodes 5\n0-\xFF\n"[..], b"episodes 5\n0-1 4096\n", b"episodes 5\n0-1 2 3\n"] {
             let trouble = bytes(&mut { wrong }).expect_err("the second line is no link");
             assert_eq!((trouble.status, trouble.message.starts_with("line 2: expected a link")), (2, true));
@@ -228,8 +259,8 @@ mod tests {
         assert_eq!(trim(&mut &made[..]), refused(7, 4));
         assert_eq!(text(&mut &made[..7]), refused(15, 7));
         assert_eq!(trim(&mut &made[..7]), refused(15, 7));
-        assert_eq!(picture(&mut std::io::repeat(0)), refused(14, 32776));
-        assert_eq!(trim(&mut std::io::repeat(0)), refused(14, 32776));
+        assert_eq!(picture(&mut std::io::repeat(0)), refused(14, 33256));
+        assert_eq!(trim(&mut std::io::repeat(0)), refused(14, 33256));
     }
 
     #[test]

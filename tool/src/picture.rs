@@ -21,7 +21,7 @@ const ROW: usize = 38;
 const RING: usize = 9;
 
 /// A picture of a report: one line for each thread, a ring round each member of the apart set, and the log's other links as arcs,
-/// dotted where they do not count.
+/// dotted where they do not count. Duets are dots in circles, doors open circles.
 pub fn of_report(log: &Log, report: &Report) -> String {
     let on_threads: BTreeSet<(u32, u32)> =
         report.threads.iter().flat_map(|steps| steps.windows(2)).map(|pair| (pair[0], pair[1])).collect();
@@ -30,31 +30,22 @@ pub fn of_report(log: &Log, report: &Report) -> String {
 
     let mut picture = Picture::new(log);
     picture.heading(&format!("Sleeper report: {episodes}, {links}, width {}", report.width), &report.to_string());
-    if report.width == 0 {
+    if report.episodes == 0 {
         picture.note("There is no episode, so there need be no sleeper.");
         return picture.finished();
     }
-    let hold = match report.width {
-        1 => "The thread holds every episode, so 1 sleeper is enough.".to_string(),
-        k => format!("The {k} threads hold every episode, so {k} sleepers are enough."),
-    };
-    let shared = report.threads.iter().map(Vec::len).sum::<usize>() > report.episodes;
-    let more = if shared { " An episode can be in more than one thread." } else { "" };
-    picture.note(&format!("threads: each row below is one, episodes that one sleeper could have made, in order. {hold}{more}"));
-    let reason = match report.width {
-        1 => "(in a ring). There is an episode",
-        _ => "(in rings). None of these has a way to another",
-    };
-    let sleepers = counted(report.width, "sleeper");
-    picture.note(&format!("apart: {} {reason}, so no fewer than {sleepers}.", listed(&report.apart)));
+    picture.note_on_width(report);
     if !others.is_empty() {
         picture.note("arcs: the log's other links, above the episodes to a larger number, below to a smaller one.");
     }
     picture.note_on_dotted();
     picture.note_on_pauses();
+    picture.note_on_voices();
     picture.axis(&others, &[], &report.apart);
-    for (i, steps) in report.threads.iter().enumerate() {
-        picture.thread(i, steps, report.apart[i]);
+    // The members in the threads' order, each as often as it has voices.
+    let members = report.apart.iter().flat_map(|member| (0..log.voices(*member)).map(|_| *member));
+    for (i, (steps, member)) in report.threads.iter().zip(members).enumerate() {
+        picture.thread(i, steps, member);
     }
     picture.episode_lines();
     picture.finished()
@@ -85,8 +76,37 @@ pub fn of_loop(log: &Log, episodes: &[u32]) -> String {
     picture.note("arcs: the log's links, above the episodes to a larger number, below to a smaller one.");
     picture.note_on_dotted();
     picture.note_on_pauses();
+    picture.note_on_voices();
     picture.axis(&others, &links, episodes);
     picture.finished()
+}
+
+/// Why so many sleepers are enough, by the threads of a report.
+fn why_enough(report: &Report, voiced: bool) -> String {
+    let sleepers = counted(report.width, "sleeper");
+    let are = if report.width == 1 { "is" } else { "are" };
+    if voiced {
+        return format!("Each episode is in at least as many as it has voices, so {sleepers} {are} enough.");
+    }
+    let hold = match report.width {
+        1 => "The thread holds".to_string(),
+        k => format!("The {k} threads hold"),
+    };
+    let shared = report.threads.iter().map(Vec::len).sum::<usize>() > report.episodes;
+    let more = if shared { " An episode can be in more than one thread." } else { "" };
+    format!("{hold} every episode, so {sleepers} {are} enough.{more}")
+}
+
+/// Why no fewer sleepers are enough, by the apart set of a report.
+fn why_no_fewer(report: &Report, voiced: bool) -> String {
+    let voices = counted(report.width, "voice");
+    let reason = match (report.apart.len(), voiced) {
+        (1, false) => "(in a ring). There is an episode".to_string(),
+        (1, true) => format!("(in a ring). It has {voices}"),
+        (_, false) => "(in rings). None of these has a way to another".to_string(),
+        (_, true) => format!("(in rings). None of these has a way to another, and together they have {voices}"),
+    };
+    format!("{} {reason}, so no fewer than {}.", listed(&report.apart), counted(report.width, "sleeper"))
 }
 
 /// The links of a log without their pauses, repeats too.
@@ -151,6 +171,8 @@ struct Picture {
     y: usize,
     /// Where the row of all episodes stands.
     axis_at: usize,
+    /// The episodes with other voices than 1, and their voices.
+    voices: BTreeMap<u32, u32>,
     /// The links that do not count.
     dotted: BTreeSet<(u32, u32)>,
     /// The least pauses that are not 0, those that are to be written, and what they must not overlap.
@@ -169,6 +191,7 @@ impl Picture {
         let size = if step < 26 { 10 } else { 12 };
         let pauses = least_pauses(log);
         let dotted = pauses.iter().filter(|(_, pause)| !counts(log.version, **pause)).map(|(link, _)| *link).collect();
+        let voices = log.marks.iter().filter(|mark| mark.voices != 1).map(|mark| (mark.episode, mark.voices)).collect();
         Picture {
             episodes,
             step,
@@ -177,6 +200,7 @@ impl Picture {
             longest: 0,
             y: 0,
             axis_at: 0,
+            voices,
             dotted,
             pauses,
             wanted: Vec::new(),
@@ -228,6 +252,18 @@ impl Picture {
         self.put(&format!("<text x=\"12\" y=\"{}\" font-size=\"14\">{line}</text>", self.y));
     }
 
+    /// Why the width of a report is what it is.
+    fn note_on_width(&mut self, report: &Report) {
+        if report.width == 0 {
+            self.note("Every episode is a door, so there need be no sleeper.");
+            return;
+        }
+        let voiced = !self.voices.is_empty();
+        let enough = why_enough(report, voiced);
+        self.note(&format!("threads: each row below is one, episodes that one sleeper could have made, in order. {enough}"));
+        self.note(&format!("apart: {}", why_no_fewer(report, voiced)));
+    }
+
     /// What dotted arcs are, where there are any.
     fn note_on_dotted(&mut self) {
         if !self.dotted.is_empty() {
@@ -241,6 +277,19 @@ impl Picture {
     fn note_on_pauses(&mut self) {
         if !self.pauses.is_empty() {
             self.note("pauses: in minutes, beside a link, where its least pause is not 0 and there is room.");
+        }
+    }
+
+    /// How duets and doors are drawn, each where there are any.
+    fn note_on_voices(&mut self) {
+        let has = |voices: u32| self.voices.values().any(|given| *given == voices);
+        let duet = "a dot in a circle is a duet, with two voices";
+        let door = "an open circle is a door, with none";
+        match (has(2), has(0)) {
+            (true, true) => self.note(&format!("voices: {duet}; {door}.")),
+            (true, false) => self.note(&format!("voices: {duet}.")),
+            (false, true) => self.note(&format!("voices: {door}.")),
+            (false, false) => {}
         }
     }
 
@@ -287,7 +336,7 @@ impl Picture {
         self.row_names("episodes", y);
         for episode in 0..self.episodes as u32 {
             let bold = marked.contains(&episode);
-            self.dot(self.x(episode), y, 3, "#333333");
+            self.episode(episode, y, 3, "#333333");
             self.number(episode, y + 11 + self.size, bold);
             if bold && !arrows.is_empty() {
                 self.ring(episode, y);
@@ -351,8 +400,7 @@ impl Picture {
             self.want_pause((pair[0], pair[1]), (self.x(pair[0]) + self.x(pair[1])) / 2, (y[0] + y[1]) / 2 + 2 + self.size);
         }
         for (step, y) in steps.iter().zip(places) {
-            let x = self.x(*step);
-            self.dot(x, y, 5, colour);
+            self.episode(*step, y, 5, colour);
             if *step == member {
                 self.ring(*step, y);
             }
@@ -368,6 +416,28 @@ impl Picture {
         if self.episodes > 60 {
             self.put(&format!("<text x=\"{}\" y=\"{y}\" font-size=\"12\" text-anchor=\"end\">{name}</text>", self.width - 12));
         }
+    }
+
+    /// An episode at its place: a dot, of a duet in a circle, or the open circle of a door.
+    fn episode(&mut self, episode: u32, y: usize, radius: usize, colour: &str) {
+        let x = self.x(episode);
+        match self.voices.get(&episode) {
+            None => self.dot(x, y, radius, colour),
+            Some(0) => self.circle("door", (x, y), radius, ("#FFFFFF", colour)),
+            Some(_) => {
+                self.circle("duet", (x, y), radius + 1, ("#FFFFFF", colour));
+                self.dot(x, y, radius.div_ceil(2), colour);
+            }
+        }
+    }
+
+    /// A circle with a line round it, and the colours in it and of the line.
+    fn circle(&mut self, class: &str, (x, y): (usize, usize), radius: usize, (inside, line): (&str, &str)) {
+        self.put(&format!(
+            "<circle class=\"{class}\" cx=\"{x}\" cy=\"{y}\" r=\"{radius}\" fill=\"{inside}\" stroke=\"{line}\" \
+             stroke-width=\"1.5\"/>"
+        ));
+        self.taken.push(Area::of_circle(x, y, radius + 1));
     }
 
     fn dot(&mut self, x: usize, y: usize, radius: usize, colour: &str) {
@@ -457,7 +527,7 @@ fn listed(episodes: &[u32]) -> String {
 mod tests {
     use super::*;
     use crate::random::Random;
-    use zohapy::Failure;
+    use zohapy::{Failure, Mark};
 
     /// How often a piece of text occurs.
     fn occurs(svg: &str, piece: &str) -> usize {
@@ -489,14 +559,25 @@ mod tests {
         let svg = of_report(log, &report);
         check_elements(&svg);
         assert_eq!(occurs(&svg, "<polyline "), report.threads.len());
-        assert_eq!(occurs(&svg, "class=\"ring\""), report.apart.len());
-        assert_eq!(occurs(&svg, " r=\"5\""), report.threads.iter().map(Vec::len).sum::<usize>());
+        assert_eq!(occurs(&svg, "class=\"ring\""), report.width);
+        // How many episodes of the row of all, and how many steps, have so many voices.
+        let all = |voices: u32| (0..log.episodes).filter(|episode| log.voices(*episode) == voices).count();
+        let steps = |voices: u32| report.threads.iter().flatten().filter(|step| log.voices(**step) == voices).count();
+        assert_eq!(occurs(&svg, "class=\"duet\""), all(2) + steps(2));
+        assert_eq!(occurs(&svg, "class=\"door\""), all(0) + steps(0));
+        assert_eq!(occurs(&svg, " r=\"5\""), steps(0) + steps(1));
+        assert_eq!(svg.contains(">voices: "), all(1) < report.episodes);
         assert!(svg.contains(&format!("<desc id=\"content\">{}</desc>", report.to_string().trim_end())));
         (svg, report)
     }
 
     fn log(episodes: u32, links: &[(u32, u32)]) -> Log {
-        Log { version: 0, episodes, links: links.iter().map(|&(from, to)| Link { from, to, pause: 0 }).collect() }
+        Log { version: 0, episodes, marks: vec![], links: links.iter().map(|&(from, to)| Link { from, to, pause: 0 }).collect() }
+    }
+
+    /// The same log with marks (episode, voices).
+    fn marked(log: Log, marks: &[(u32, u32)]) -> Log {
+        Log { marks: marks.iter().map(|&(episode, voices)| Mark { episode, voices }).collect(), ..log }
     }
 
     /// The same links in version 1.
@@ -513,7 +594,22 @@ mod tests {
 
     /// A log of links with their pauses.
     fn paused(episodes: u32, links: &[(u32, u32, u32)]) -> Log {
-        Log { version: 0, episodes, links: links.iter().map(|&(from, to, pause)| Link { from, to, pause }).collect() }
+        let links = links.iter().map(|&(from, to, pause)| Link { from, to, pause }).collect();
+        Log { version: 0, episodes, marks: vec![], links }
+    }
+
+    /// The notes of a picture, each in one line.
+    fn notes(svg: &str) -> Vec<String> {
+        let mut notes: Vec<(usize, String)> = Vec::new();
+        for tag in svg.split('<').filter(|tag| tag.starts_with("text ") && tag.contains(" font-size=\"14\"")) {
+            let (y, line) = (value(tag, "y"), tag.split_once('>').expect("a text").1);
+            match notes.last_mut() {
+                Some((last, note)) if y == *last + 20 => *note += &format!(" {line}"),
+                _ => notes.push((y, line.to_string())),
+            }
+            notes.last_mut().expect("a note").0 = y;
+        }
+        notes.into_iter().map(|note| note.1).collect()
     }
 
     /// The value of an element's attribute.
@@ -536,7 +632,7 @@ mod tests {
         assert_eq!(behind, "\n</svg>\n", "the pauses stand above all else");
         let mut taken: Vec<Area> = Vec::new();
         for tag in before.split('<').filter(|tag| tag.starts_with("circle ")) {
-            let width = if tag.contains("class=\"ring\"") { 1 } else { 0 };
+            let width = if tag.contains(" stroke=") { 1 } else { 0 };
             taken.push(Area::of_circle(value(tag, "cx"), value(tag, "cy"), value(tag, "r") + width));
         }
         for tag in before.split('<').filter(|tag| tag.starts_with("text ") && tag.contains("\"middle\"")) {
@@ -601,7 +697,9 @@ mod tests {
         for (round, ceiling) in [1, 3, 100, 4096].into_iter().cycle().take(200).enumerate() {
             let episodes = 2 + random.below(60);
             let links = (0..random.below(200)).map(|_| random.link(episodes, ceiling)).filter(|link| link.from < link.to);
-            let log = Log { version: round as u32 / 4 % 2, episodes, links: links.collect() };
+            let links = links.collect();
+            let marks = if round % 8 < 4 { vec![] } else { random.marks(episodes) };
+            let log = Log { version: round as u32 / 4 % 2, episodes, marks, links };
             let (svg, _) = picture(&log);
             let least = least_pauses(&log);
             assert!(minutes(&svg).iter().all(|pause| least.values().any(|least| least == pause)));
@@ -709,7 +807,7 @@ mod tests {
         for ceiling in [1, 100, 361].into_iter().cycle().take(150) {
             let episodes = 1 + random.below(30);
             let links = (0..random.below(60)).map(|_| random.link(episodes, ceiling)).collect();
-            let log = Log { version: 0, episodes, links };
+            let log = Log { version: 0, episodes, marks: random.marks(episodes), links };
             let [of_0, of_1] = [log.clone(), in_version_1(log)].map(|log| match Report::of(&log.words()) {
                 Ok(report) => of_report(&log, &report),
                 Err(Failure::Loop(episodes)) => of_loop(&log, &episodes),
@@ -717,6 +815,51 @@ mod tests {
             });
             assert!(of_0 == of_1 && !of_0.contains("dotted"));
         }
+    }
+
+    #[test]
+    fn a_duet_is_a_dot_in_a_circle_and_a_door_an_open_circle() {
+        let path = log(3, &[(0, 1), (1, 2)]);
+        let (svg, report) = picture(&marked(path.clone(), &[(0, 2), (1, 0)]));
+        assert_eq!((report.apart, report.threads), (vec![0], vec![vec![0, 1, 2], vec![0]]));
+        let [.., enough, no_fewer, voices] = &notes(&svg)[..] else { panic!("{svg}") };
+        assert!(enough.ends_with("Each episode is in at least as many as it has voices, so 2 sleepers are enough."));
+        assert_eq!(no_fewer, "apart: 0 (in a ring). It has 2 voices, so no fewer than 2 sleepers.");
+        assert_eq!(voices, "voices: a dot in a circle is a duet, with two voices; an open circle is a door, with none.");
+    }
+
+    #[test]
+    fn the_notes_say_what_there_is() {
+        let path = log(3, &[(0, 1), (1, 2)]);
+        let marked_path = |marks: &[(u32, u32)]| notes(&picture(&marked(path.clone(), marks)).0);
+        assert_eq!(marked_path(&[(0, 2), (1, 1)])[2], "voices: a dot in a circle is a duet, with two voices.");
+        let door = marked_path(&[(1, 0)]);
+        assert!(door[0].ends_with("so 1 sleeper is enough."));
+        assert_eq!(door[1], "apart: 2 (in a ring). It has 1 voice, so no fewer than 1 sleeper.");
+        assert_eq!(door[2], "voices: an open circle is a door, with none.");
+        let apart = &notes(&picture(&marked(log(3, &[(0, 1)]), &[(2, 2)])).0)[1];
+        assert!(
+            apart.starts_with("apart: 1 2 (in rings). None of these has a way to another, and together they have 3 voices, so")
+        );
+        // Marks that say 1 are not drawn.
+        assert_eq!(picture(&marked(path.clone(), &[(0, 1), (1, 1)])).0, picture(&path).0);
+    }
+
+    #[test]
+    fn of_doors_alone_there_are_no_threads() {
+        let (svg, report) = picture(&marked(log(3, &[(0, 1), (2, 1)]), &[(0, 0), (1, 0), (2, 0)]));
+        assert_eq!(report.width, 0);
+        assert!(svg.contains(">Every episode is a door, so there need be no sleeper.<"));
+        assert_eq!((paths(&svg, "arcs").len(), occurs(&svg, "class=\"door\"")), (2, 3));
+    }
+
+    #[test]
+    fn a_loop_has_duets_and_doors() {
+        let log = marked(log(4, &[(0, 1), (1, 0), (1, 2)]), &[(0, 2), (1, 0), (3, 0)]);
+        let svg = of_loop(&log, &[0, 1]);
+        check_elements(&svg);
+        assert_eq!(["ring", "duet", "door"].map(|class| occurs(&svg, &format!("class=\"{class}\""))), [2, 1, 2]);
+        assert!(svg.contains(">voices: a dot in a circle is a duet, "));
     }
 
     #[test]

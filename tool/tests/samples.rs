@@ -5,16 +5,17 @@ use std::path::PathBuf;
 use std::process::{Command, Output};
 
 use zohapy::{
-    Failure, Link, Report, WORK_WORDS, bytes_from_words, copy_words, fair_copy, head_episodes, head_version, kind, links, read,
-    to_word, words_from_bytes,
+    Failure, Link, Report, WORK_WORDS, bytes_from_words, copy_words_with_voices, episode, fair_copy, head_episodes, head_version,
+    kind, links, marks, read, to_word, voices_word, words_from_bytes,
 };
 
 /// The samples, and whether they have a text form.
-const SAMPLES: [(&str, bool); 7] = [
+const SAMPLES: [(&str, bool); 8] = [
     ("whole-example", true),
     ("small-night", true),
     ("paused-night", true),
     ("long-night", true),
+    ("duet-night", true),
     ("full-night", true),
     ("loop", true),
     ("damaged", false),
@@ -68,16 +69,17 @@ fn each_has_a_picture_or_a_refusal() {
 
 #[test]
 fn the_stored_pictures_are_those_of_the_logs() {
-    for name in ["small-night", "paused-night", "long-night"] {
+    for name in ["small-night", "paused-night", "long-night", "duet-night"] {
         assert!(run("picture", name, "log").stdout == content(name, "svg"), "{name}");
     }
 }
 
 #[test]
 fn the_stored_fair_copies_are_those_of_the_logs() {
-    for name in ["paused-night", "long-night"] {
+    for name in ["paused-night", "long-night", "duet-night"] {
         let log = words_from_bytes(&content(name, "log")).expect("the bytes are words");
-        let mut out = vec![0; copy_words(read(&log).expect("the log passes").links)];
+        let (to_words, voices_words) = (read(&log).expect("the log passes").links, marks(&log).expect("the log passes").len());
+        let mut out = vec![0; copy_words_with_voices(to_words, voices_words)];
         let count = fair_copy(&log, &mut out, &mut vec![0; WORK_WORDS]).expect("the log has a fair copy");
         assert!(bytes_from_words(&out[..count]) == run("bytes", name, "fair.txt").stdout, "{name}");
     }
@@ -85,7 +87,7 @@ fn the_stored_fair_copies_are_those_of_the_logs() {
 
 #[test]
 fn a_trimmed_copy_lacks_the_implied_link_and_those_that_do_not_count() {
-    let rows = [("paused-night", &[(0, 6)][..]), ("long-night", &[(0, 5), (1, 5), (4, 6), (9, 2)])];
+    let rows = [("paused-night", &[(0, 6)][..]), ("long-night", &[(0, 5), (1, 5), (4, 6), (9, 2)]), ("duet-night", &[(3, 8)])];
     for (name, left_out) in rows {
         let fair = words_from_bytes(&run("bytes", name, "fair.txt").stdout).expect("the bytes are words");
         let trimmed = words_from_bytes(&run("trim", name, "log").stdout).expect("the bytes are words");
@@ -93,6 +95,7 @@ fn a_trimmed_copy_lacks_the_implied_link_and_those_that_do_not_count() {
         kept.retain(|link| !left_out.contains(&(link.from, link.to)));
         kept.iter_mut().for_each(|link| link.pause = 0);
         assert_eq!(links(&trimmed), Ok(kept), "{name}");
+        assert_eq!(marks(&trimmed), marks(&fair), "{name}");
         assert_eq!((head_version(trimmed[0]), head_episodes(trimmed[0])), (0, head_episodes(fair[0])), "{name}");
     }
 }
@@ -118,12 +121,32 @@ fn what_the_pauses_of_long_night_do() {
 }
 
 #[test]
-fn the_stored_trimmed_copy_is_that_of_the_log() {
-    let trimmed = run("trim", "full-night", "log").stdout;
-    assert!(trimmed == run("bytes", "full-night", "trimmed.txt").stdout);
+fn what_the_voices_of_duet_night_do() {
+    let log = words_from_bytes(&content("duet-night", "log")).expect("the bytes are words");
+    // The width and the apart set where an episode has other voices.
+    let report = |marked, voices| {
+        let mut log = log.clone();
+        let word = log.iter_mut().find(|word| kind(**word) == 9 && episode(**word) == marked).expect("it has a voices word");
+        *word = voices_word(marked, voices).expect("room");
+        Report::of(&log).map(|report| (report.width, report.apart)).expect("the log has a report")
+    };
+    let given = (4, vec![2, 3, 4]);
+    assert_eq!(Report::of(&log).map(|report| (report.width, report.apart)), Ok(given.clone()));
+    assert_eq!(report(3, 1), (3, vec![7, 8, 9]));
+    for (marked, voices) in [(6, 1), (5, 1), (10, 1), (9, 0)] {
+        assert_eq!(report(marked, voices), given, "{marked}");
+    }
+}
+
+#[test]
+fn the_stored_trimmed_copies_are_those_of_the_logs() {
     let report = |bytes: &[u8]| Report::of(&words_from_bytes(bytes).expect("the bytes are words")).expect("there is no loop");
-    let (of_log, of_copy) = (report(&content("full-night", "log")), report(&trimmed));
-    assert_eq!((of_copy.width, of_copy.apart), (of_log.width, of_log.apart));
+    for name in ["full-night", "duet-night"] {
+        let trimmed = run("trim", name, "log").stdout;
+        assert!(trimmed == run("bytes", name, "trimmed.txt").stdout, "{name}");
+        let (of_log, of_copy) = (report(&content(name, "log")), report(&trimmed));
+        assert_eq!((of_copy.width, of_copy.apart), (of_log.width, of_log.apart), "{name}");
+    }
 }
 
 #[test]

@@ -2,7 +2,7 @@
 use mathlib.Core.Path.{◌≡◌, refl, ap, ◌∙◌}
 use mathlib.Core.Logic.{◌≢◌}
 use mathlib.Core.List.{List, ◌++◌}
-use Prim.Native.Nat.{ℕ, ◌+◌, ◌-◌, ◌*◌, ◌/◌, ◌≤◌, ◌<◌}
+use Prim.Native.Nat.{ℕ, ◌+◌, ◌-◌, ◌*◌, ◌/◌, ◌%◌, ◌^◌, ◌≤◌, ◌<◌}
 use native.Mathlib.Decide.{ℕ_discrete, dec_lt}
 use native.Mathlib.Omega.{arith}
 use lib.ListN.{length, get_or, set, take, drop, replicate, length-set, length-append, length-drop, length-replicate, get_or-replicate, get_or-append}
@@ -81,6 +81,15 @@ row_other {w} {w'} base a o x y hy ne = bits_words w w' (base + 8 * x) y hy (λ 
     far : (i : ℕ) → base + 8 * x ≤ i → i < base + 8 * x + 8 → Dec (x < a) → get_or w' i 0 ≡ get_or w i 0
     far i lo hi (yes l) = o.before i (omega arith)
     far i lo hi (no l) = o.behind i (let d : a < x = omega (arith, ne) in omega arith)
+
+-- the bits of a matrix in words that are the same, at `p` and at `q`
+pub bit_moved : (u v : List ℕ) (p q : ℕ) → ((i : ℕ) → i < matrix_words → get_or v (q + i) 0 ≡ get_or u (p + i) 0) → (a b : ℕ) → a < 256 → b < 256
+    → bit v (q + 8 * a) b ≡ bit u (p + 8 * a) b
+unfolding bit
+bit_moved u v p q f a b ha hb =
+    let e : q + (8 * a + b / 32) ≡ q + 8 * a + b / 32 = omega arith in
+    let g : p + (8 * a + b / 32) ≡ p + 8 * a + b / 32 = omega arith in
+    ap (λ (x : ℕ). x / 2 ^ (b % 32) % 2) (rw (e, g) at (f (8 * a + b / 32) (omega arith)))
 
 -- a matrix before the words that may have changed
 pub matrix_before : {base lo hi : ℕ} {w w' : List ℕ} {R : ℕ → ℕ → Type 0} → base + matrix_words ≤ lo → Outside lo hi w w' → Matrix base w R

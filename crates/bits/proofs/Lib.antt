@@ -2,5 +2,6 @@
 pub mod Digits
 pub mod Parts
 pub mod Rows
+pub mod Joins
 pub mod Frames
 pub mod Pairs

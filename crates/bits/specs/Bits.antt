@@ -1,5 +1,5 @@
 -- Rows of bits in a list of 32-bit words: 8 words to a row, 32 bits to a word, the lowest first.
-use Rattle.std.specs.Prelude.{◌≡◌, Option, Some, None, ◌≢◌, Bool, true, false, List, ℕ, zero, suc, ◌+◌, ◌-◌, ◌*◌, ◌/◌, ◌%◌, ◌^◌, ◌≤◌, ◌<◌, max, length, get_or}
+use Rattle.std.specs.Prelude.{◌≡◌, ◌⊎◌, Option, Some, None, ◌≢◌, Bool, true, false, List, ℕ, zero, suc, ◌+◌, ◌-◌, ◌*◌, ◌/◌, ◌%◌, ◌^◌, ◌≤◌, ◌<◌, max, length, get_or}
 
 -- digit `i` of `x`, in binary
 abbrev pub digit : ℕ → ℕ → ℕ
@@ -32,6 +32,13 @@ pub record RowJoined (w w' : List ℕ) (base a k : ℕ) : Type 0 where
 pub record RowAdded (w : List ℕ) (row : ℕ) (v v' : List ℕ) : Type 0 where
   pub same_length : length v' ≡ length v
   pub joined : (b : ℕ) → b < 256 → bit v' 0 b ≡ max (bit v 0 b) (bit w row b)
+
+-- the row of bits `v'` has besides those of `v` those of the rows of `w` from word `base` on that the digits of `x` name
+pub record RowsAdded (w : List ℕ) (base x : ℕ) (v v' : List ℕ) : Type 0 where
+  pub same_length : length v' ≡ length v
+  pub old : (c : ℕ) → c < 256 → bit v 0 c ≡ 1 → bit v' 0 c ≡ 1
+  pub new : (j c : ℕ) → j < 32 → c < 256 → digit x j ≡ 1 → bit w (base + 8 * j) c ≡ 1 → bit v' 0 c ≡ 1
+  pub no_other : (c : ℕ) → c < 256 → bit v' 0 c ≡ 1 → (bit v 0 c ≡ 1) ⊎ ((j : ℕ) × (j < 32) × (digit x j ≡ 1) × (bit w (base + 8 * j) c ≡ 1))
 
 -- `w'` is `w` with the row of bits `v` joined into the row that starts at word `row`
 pub record RowGained (v w w' : List ℕ) (row : ℕ) : Type 0 where

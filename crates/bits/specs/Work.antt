@@ -14,34 +14,48 @@ links_at = 0
 abbrev pub ways_at : ℕ
 ways_at = 2048
 
+-- the pairs of items, a row of bits for each item
+abbrev pub items_at : ℕ
+items_at = 4096
+
 -- the tables of the search, 256 words each: the item behind, the item before, from where an item was seen, and the queue
 abbrev pub next_at : ℕ
-next_at = 4096
+next_at = 6144
 
 abbrev pub prev_at : ℕ
-prev_at = 4352
+prev_at = 6400
 
 abbrev pub via_at : ℕ
-via_at = 4608
+via_at = 6656
 
 abbrev pub queue_at : ℕ
-queue_at = 4864
+queue_at = 6912
 
 -- a row of bits: what the search has seen
 abbrev pub seen_at : ℕ
-seen_at = 5120
+seen_at = 7168
 
 -- a row of bits: what earlier searches have seen in vain
 abbrev pub dead_at : ℕ
-dead_at = 5128
+dead_at = 7176
 
 -- a row of bits of which none is set
 abbrev pub none_at : ℕ
-none_at = 5136
+none_at = 7184
+
+-- the tables of the episodes and the items, 256 words each: the voices of an episode, where its items start, and whose an item is
+abbrev pub voices_at : ℕ
+voices_at = 7192
+
+abbrev pub starts_at : ℕ
+starts_at = 7448
+
+abbrev pub owners_at : ℕ
+owners_at = 7704
 
 -- where the regions end
 abbrev pub used_words : ℕ
-used_words = 5144
+used_words = 7960
 
 -- the matrix at `base` has exactly the pairs of `R`, among 256 rows of 256 bits
 pub record Matrix (base : ℕ) (w : List ℕ) (R : ℕ → ℕ → Type 0) : Type 0 where

@@ -4,35 +4,41 @@
 #![tactic(auto)]
 
 ghost use Rattle.std.specs.Prelude.{◌≡◌, ℕ, ◌+◌, ◌-◌, ◌*◌, ◌/◌, ◌<◌, ◌≤◌, IfSome, eqb, length, get_or, replicate};
-ghost use Rattle.bits.specs.Bits.{digit, bit, BitSet, SetWhere, RowJoined, RowAdded, RowGained, RowTaken, RowLess, RowCopied, FirstFrom, WordOf, FirstBit, NextNew, place_or_end};
+ghost use Rattle.bits.specs.Bits.{digit, bit, BitSet, SetWhere, RowJoined, RowAdded, RowsAdded, RowGained, RowTaken, RowLess, RowCopied, FirstFrom, WordOf, FirstBit, NextNew, place_or_end};
 
 pub mod ones;
 
 pub use ones::{Ones, Row, bits_of, ones_of};
 use std::array;
 
-// The regions of the work words: the links and the ways, each a row of bits for each episode; the tables of the search, 256 words each;
-// the bits of what it has seen, of what earlier searches have seen in vain, and bits of which none is set: no code reads the last, which stay
-// since the layout of the work words stays.
+// The regions of the work words: the links and the ways, each a row of bits for each episode, and the pairs of items, a row for each item; the tables
+// of the search, 256 words each; the bits of what it has seen, of what earlier searches have seen in vain, and bits of which none is set: no code
+// reads the last; the tables of the episodes and the items, 256 words each.
 pub const LINKS: usize = 0;
 
 pub const WAYS: usize = 2048;
 
-pub const NEXT: usize = 4096;
+pub const ITEMS: usize = 4096;
 
-pub const PREV: usize = 4352;
+pub const NEXT: usize = 6144;
 
-pub const VIA: usize = 4608;
+pub const PREV: usize = 6400;
 
-pub const QUEUE: usize = 4864;
+pub const VIA: usize = 6656;
 
-pub const SEEN: usize = 5120;
+pub const QUEUE: usize = 6912;
 
-pub const DEAD: usize = 5128;
+pub const SEEN: usize = 7168;
 
-pub const NONE: usize = 5136;
+pub const DEAD: usize = 7176;
 
-pub const USED: usize = 5144;
+pub const NONE: usize = 7184;
+
+pub const VOICES: usize = 7192;
+
+pub const STARTS: usize = 7448;
+
+pub const OWNERS: usize = 7704;
 
 // Whether digit `d` of the word at `at` is set.
 pub fn digit_at(w: &[u32], at: usize, d: usize) -> bool
@@ -83,6 +89,16 @@ pub fn join_into(w: &[u32], row: usize, v: &mut [u32; 8])
     ensures { RowAdded w.now row v.old v.new }
 {
     join(v, &w[row..row + 8]);
+}
+
+// Joins into the row `v` those of the rows of `w` from word `base` on that the digits of `x` name.
+pub fn join_rows(w: &[u32], base: usize, x: u32, v: &mut [u32; 8])
+    requires { base + 256 ≤ length w.now }
+    ensures { RowsAdded w.now base x v.old v.new }
+{
+    for i in ones_of(x) {
+        join_into(w, base + 8 * i, v);
+    }
 }
 
 // Joins the row `v` into the row that starts at word `row` of `w`.

@@ -112,7 +112,7 @@ module _
           by (inr (a, la, e)) = let r = rest a la (pairs a x la h e) in (r.0, r.1, steps_snoc r.2 e, r.3)
 
   -- the chain of an item
-  chain_at : (v : ℕ) → v < m → (c : List ℕ) × ChainAt m R t.next v c
+  pub chain_at : (v : ℕ) → v < m → (c : List ℕ) × ChainAt m R t.next v c
   chain_at v h = from (start v h)
     where
       from : (s : ℕ) × (s < m) × Steps t.next s v × (t.prev s ≡ 0) → (c : List ℕ) × ChainAt m R t.next v c
@@ -172,7 +172,7 @@ module _
     is_member x h z o = test_passing (member_test t) m h (open_member t z o)
 
     -- an item that is not seen goes on to a member
-    unseen_ahead : (x : ℕ) → x < m → t.seen x ≡ 0 → (v : ℕ) × Mem v (members t m) × Steps t.next x v
+    pub unseen_ahead : (x : ℕ) → x < m → t.seen x ≡ 0 → (v : ℕ) × Mem v (members t m) × Steps t.next x v
     unseen_ahead = order_induction (turned order) m (λ x. t.seen x ≡ 0 → (v : ℕ) × Mem v (members t m) × Steps t.next x v) each
       where
         each : (x : ℕ) → x < m → ((y : ℕ) → y < m → R x y → t.seen y ≡ 0 → (v : ℕ) × Mem v (members t m) × Steps t.next y v)

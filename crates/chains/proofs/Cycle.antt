@@ -91,17 +91,18 @@ pub walk_end : {g : Graph} {t : Tables} {v : ℕ} {c : List ℕ} → Walking g t
 walk_end {v = v} w =
     (record { first = v; others = w.others; parts = w.parts; episodes = w.episodes; once = w.once; closed = w.links }, refl)
 
-module _ {g : Graph} {t t' : Tables} {v : ℕ} (s : Selves g.n t v) (k : Shrunk g.n (Link g) t t') where
-  low : (x y : ℕ) → x < g.n → t'.next x ≡ y + 1 → y < g.n
-  low x y xl h = let i = k.matching.next_le x xl in omega arith
+-- what is behind an item is an item
+low : {m : ℕ} {R : ℕ → ℕ → Type 0} {t t' : Tables} → Shrunk m R t t' → (x y : ℕ) → x < m → t'.next x ≡ y + 1 → y < m
+low k x y xl h = let i = k.matching.next_le x xl in omega arith
 
+module _ {g : Graph} {t t' : Tables} {v : ℕ} (s : Selves g.n t v) (k : Shrunk g.n (Link g) t t') where
   pub walk_start : {x : ℕ} → t'.next v ≡ x + 1 → Walking g t' v (v ∷ []) x
   walk_start {x} h =
       record {
         others = [];
         parts = refl;
         episodes = all_cons s.below (all_nil _);
-        next_episode = low v x s.below h;
+        next_episode = low k v x s.below h;
         once = nodup_cons not-nil Pairwise.nil;
         new = λ ne m. ne (eq_of_singleton m);
         links = more link single;
@@ -111,7 +112,7 @@ module _ {g : Graph} {t t' : Tables} {v : ℕ} (s : Selves g.n t v) (k : Shrunk 
       link : Link g v x
       link =
           ⊎_elim (λ e. let f = s.next_end in let bad : ⊥ = omega arith in absurd bad) (λ l. l)
-          (k.pairs v x s.below (low v x s.below h) h)
+          (k.pairs v x s.below (low k v x s.below h) h)
 
   -- one episode more
   pub walk_on : {c : List ℕ} {x y : ℕ} → Walking g t' v c x → x ≢ v → t'.next x ≡ y + 1 → Walking g t' v (c ++ x ∷ []) y
@@ -128,7 +129,7 @@ module _ {g : Graph} {t t' : Tables} {v : ℕ} (s : Selves g.n t v) (k : Shrunk 
       }
     where
       yl : y < g.n
-      yl = low x y w.next_episode h
+      yl = low k x y w.next_episode h
 
       -- the one before `y` would be `x`, which was not written yet
       new : y ≢ v → Mem y (c ++ x ∷ []) → ⊥

@@ -5,6 +5,7 @@ pub mod Cycle
 pub mod Members
 pub mod Steps
 pub mod Antichain
+pub mod Together
 pub mod Threads
 pub mod Reports
 pub mod Pairs

@@ -1,40 +1,45 @@
--- Laws of threads that hold the chains of some items, one for each.
-use mathlib.Core.Path.{◌≡◌, refl, sym, ap, subst}
-use mathlib.Core.Logic.{⊎_elim}
-use mathlib.Core.List.Memᴰ
-use mathlib.Core.List.Memᴰ.{cases_cons as mem-cases}
+-- Laws of threads that hold the owners of the chains of some items, one for each.
+use mathlib.Core.Path.{◌≡◌, refl, ap}
+use mathlib.Core.Logic.{inl}
 use mathlib.Core.List.Memᴰ.{head as here}
-use mathlib.Core.List.Memᴰ.{not-nil}
 use mathlib.Core.List.Memᴰ.{tail as there}
-use mathlib.Core.List.{
-  List,
-  [],
-  ◌∷◌,
-  ◌++◌,
-  Memᴰ as Mem,
-  Nodup,
-}
+use mathlib.Core.List.{List, [], ◌∷◌, ◌++◌, Memᴰ as Mem}
 use Prim.Native.Nat.{ℕ, zero, suc, ◌<◌}
 use native.Mathlib.Omega.{arith}
 use lib.ListN.{length, get_or}
-use Rattle.order.specs.Order.{All}
-use Rattle.order.proofs.Lists.{all_nil, all_cons, nodup_head, nodup_tail}
+use Rattle.order.specs.Order.{All, Chain}
+use Rattle.order.proofs.Lists.{all_nil, all_cons}
 use Rattle.paths.specs.Graph.{Graph, Thread}
+use Rattle.paths.specs.Items.{item_count, ItemWay}
+use Rattle.paths.proofs.Items.{Filled}
+use Rattle.searching.specs.Items.{stay}
 use Rattle.chains.specs.Threads.{ThreadOf, ThreadsOf}
+use Rattle.chains.proofs.Antichain.{ChainAt}
 
-module _ {A : Type 0} where
-  pub get_d_mem : (l : List A) (i : ℕ) (d : A) → i < length l → Mem (get_or l i d) l
-  get_d_mem [] i d h = let none : ⊥ = omega arith in absurd none
-  get_d_mem (x ∷ l) zero d h = here refl
-  get_d_mem (x ∷ l) (suc i) d h = there (get_d_mem l i d (omega arith))
+-- Chains of some items, one for each, and threads that they are filled to.
+pub record FilledChains (g : Graph) (next : ℕ → ℕ) (vs : List ℕ) (ts : List (List ℕ)) : Type 0 where
+  pub chains : List (List ℕ)
+  pub are : All (Chain (ItemWay g)) chains
+  pub filled : Filled g chains ts
+  pub of : All (λ v. (c : List ℕ) × Mem c chains × ChainAt (item_count g) (ItemWay g) next v c) vs
 
-  -- where no element stands twice, an element has one place
-  pub nodup_get_d : (l : List A) (d : A) → Nodup l → (i j : ℕ) → i < length l → j < length l → get_or l i d ≡ get_or l j d → i ≡ j
-  nodup_get_d [] d p i j li lj e = let none : ⊥ = omega arith in absurd none
-  nodup_get_d (x ∷ l) d p zero zero li lj e = refl
-  nodup_get_d (x ∷ l) d p zero (suc j) li lj e = absurd (nodup_head p (Memᴰ.cast e (get_d_mem l j d (omega arith))))
-  nodup_get_d (x ∷ l) d p (suc i) zero li lj e = absurd (nodup_head p (Memᴰ.cast (sym e) (get_d_mem l i d (omega arith))))
-  nodup_get_d (x ∷ l) d p (suc i) (suc j) li lj e = ap suc (nodup_get_d l d (nodup_tail p) i j (omega arith) (omega arith) e)
+-- threads that hold the chains of items
+pub fill_chains : {g : Graph} {next : ℕ → ℕ} → ((v : ℕ) → v < item_count g → (c : List ℕ) × ChainAt (item_count g) (ItemWay g) next v c)
+    → (vs : List ℕ) (ts : List (List ℕ)) → All (λ v. v < item_count g) vs → ThreadsOf g next vs ts → FilledChains g next vs ts
+unfolding ThreadsOf Filled
+fill_chains chain_of [] [] below h = record { chains = []; are = all_nil _; filled = tt; of = all_nil _ }
+fill_chains chain_of [] (th ∷ ts) below h = absurd h
+fill_chains chain_of (v ∷ vs) [] below h = absurd h
+fill_chains {g} chain_of (v ∷ vs) (th ∷ ts) below h =
+    let lv : v < item_count g = below v (here refl) in
+    let r = fill_chains chain_of vs ts (λ x n. below x (there n)) h.1 in
+    let (c, q) = chain_of v lv in
+    record {
+      chains = c ∷ r.chains;
+      are = all_cons q.chain r.are;
+      filled = (h.0.thread, λ x m. h.0.holds x (q.below x m) (q.steps x v m (q.holds v lv (inl stay))), r.filled);
+      of = all_cons (c, here refl, q) (λ x n. let o = r.of x n in (o.0, there o.1, o.2));
+    }
 
 module _ (g : Graph) (next : ℕ → ℕ) where
   pub threads_none : ThreadsOf g next [] []
@@ -62,17 +67,6 @@ module _ (g : Graph) (next : ℕ → ℕ) where
   threads_all [] (th ∷ ts) h = absurd h
   threads_all (v ∷ vs) [] h = absurd h
   threads_all (v ∷ vs) (th ∷ ts) h = all_cons h.0.thread (threads_all vs ts h.1)
-
-  -- each of the items has one of the threads
-  pub thread_of : {v : ℕ} (vs : List ℕ) (ts : List (List ℕ)) → ThreadsOf g next vs ts → Mem v vs
-      → (th : List ℕ) × Mem th ts × ThreadOf g next v th
-  unfolding ThreadsOf
-  thread_of [] ts h m = absurd (not-nil m)
-  thread_of (w ∷ vs) [] h m = absurd h
-  thread_of {v} (w ∷ vs) (th ∷ ts) h m =
-      ⊎_elim (λ e. (th, here refl, subst (λ (x : ℕ). ThreadOf g next x th) (sym e) h.0))
-      (λ n. let r = thread_of vs ts h.1 n in (r.0, there r.1, r.2))
-      (mem-cases m)
 
   -- the thread at place `i` is that of the item there
   pub threads_at : (vs : List ℕ) (ts : List (List ℕ)) → ThreadsOf g next vs ts → (i : ℕ) → i < length vs

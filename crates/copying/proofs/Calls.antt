@@ -12,7 +12,7 @@ use Rattle.logs.specs.Content.{heard_graph, least_pause}
 use Rattle.logs.specs.Log.{content_of}
 use Rattle.logs.specs.declared.passed.Log.{Log}
 use Rattle.logs.proofs.Laws.{graph_episodes}
-use Rattle.copying.specs.FairCopy.{linked_to, group, copy_length}
+use Rattle.copying.specs.FairCopy.{linked_to, group, groups}
 use Rattle.copying.specs.Copying.{BlockMarks, LinksWritten}
 use Rattle.copying.specs.Calls.{RoomFor, CalledBelow, WritesLinks}
 use Rattle.copying.proofs.Rows.{next_block}
@@ -38,8 +38,9 @@ module _ {F : Type 0} (pre : F → ℕ → MutBor (List ℕ) → Type 0) (step :
 
 -- the next call, for the group of `a`, behind those below
 module _ {F : Type 0} {pre : F → ℕ → MutBor (List ℕ) → Type 0} {step : F → ℕ → MutBor (List ℕ) → ℕ → MutBor (List ℕ) → F → Type 0}
-    {pause : ℕ → ℕ → ℕ} {g : Graph} {f e : F} {o o' : List ℕ} {words links a : ℕ} (calls : WritesLinks pre step pause g f)
-    (fits : copy_length pause g ≤ length o) (before : CalledBelow pre step pause g f a e) (s : Copying pause g o o' words links a) (h : a < g.n)
+    {pause : ℕ → ℕ → ℕ} {g : Graph} {f e : F} {start : ℕ} {o o' : List ℕ} {words links a : ℕ} (calls : WritesLinks pre step pause g f)
+    (fits : start + length (groups pause g g.n) < length o) (before : CalledBelow pre step pause g f a e)
+    (s : Copying pause g start o o' words links a) (h : a < g.n)
   where
     pub next_may : (p : MutBor (List ℕ)) → p.now ≡ take (length o' - words) (drop words o') → pre e a p
     next_may p at = calls.may a e p before h (rw at (copying_room s fits _ refl h))

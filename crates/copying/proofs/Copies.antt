@@ -1,10 +1,13 @@
 -- The groups in the output, episode by episode, and the whole copy.
-use mathlib.Core.Path.{◌≡◌, refl, sym, ap, subst}
-use mathlib.Core.List.{List, [], ◌∷◌, ◌++◌, map}
+use mathlib.Core.Path.{◌≡◌, refl, sym, ap, subst, ◌∙◌}
+use mathlib.Core.List.{List, [], ◌∷◌, ◌++◌, map, append_assoc, append-nil}
 use Prim.Native.Nat.{ℕ, zero, suc, ◌+◌, ◌-◌, ◌≤◌, ◌<◌, ◌^◌}
 use native.Mathlib.Numerals.{add-one}
 use native.Mathlib.Omega.{arith}
 use lib.ListN.{length, get_or, set, take, drop, length-append, length-map, length-drop}
+use lib.Seq.{length-take-le}
+use Rattle.std.proofs.lemmas.List.{take-append-drop}
+use Rattle.std.proofs.lemmas.Slice.{drop-append-drop}
 use Rattle.paths.specs.Graph.{Graph}
 use Rattle.paths.specs.Links.{linked}
 use Rattle.paths.proofs.Passing.{length_passing}
@@ -13,11 +16,30 @@ use Rattle.logs.specs.Content.{heard_graph}
 use Rattle.logs.specs.Log.{content_of, graph_of, PassedLog}
 use Rattle.logs.proofs.Laws.{words_small, heard_links_count}
 use Rattle.writing.specs.Layout.{BeginsWith}
-use Rattle.writing.proofs.Buffers.{begins_itself, begins_first, begins_more, begins_length, begins_part, lent_part, lent_rest}
-use Rattle.copying.specs.FairCopy.{linked_to, group, groups, group_links, copy_words, copy_length}
-use Rattle.copying.specs.Copying.{group_length, LinksWritten, GroupWritten, GroupsWritten}
+use Rattle.writing.proofs.Buffers.{begins_words, begins_first, begins_more, begins_length, begins_part, lent_part, lent_rest}
+use Rattle.copying.specs.FairCopy.{linked_to, group, groups, group_links, voices_words, copy_words, copy_length}
+use Rattle.copying.specs.Copying.{group_length, LinksWritten, GroupWritten, GroupsWritten, VoicesWritten}
 use Rattle.copying.proofs.Linked.{length_group, groups_more, length_copy, group_room}
 use Rattle.copying.proofs.GroupLinks.{links_of}
+
+-- a buffer begins with its own first words
+begins_taken : (k : ℕ) (o : List ℕ) → k ≤ length o → BeginsWith (take k o) o o
+begins_taken k o h =
+    let size = length-take-le k o h in (omega arith, rw size (sym (take-append-drop k o)))
+
+-- what begins with its own first words and others, begins with the words that these were
+begins_on : (ws o o₁ : List ℕ) → BeginsWith ws o o₁ → (vs o₂ : List ℕ) (k : ℕ) → k ≡ length ws → BeginsWith (take k o₁ ++ vs) o₁ o₂
+    → BeginsWith (ws ++ vs) o o₂
+begins_on ws o o₁ b vs o₂ k e c =
+    let (front, rest) = begins_words ws o o₁ b k (sym e) in
+    let size = begins_length ws o o₁ b in
+    let whole : BeginsWith (ws ++ vs) o₁ o₂ = rw front at c in
+    let n = length (ws ++ vs) in (
+      omega (arith, whole.0),
+      whole.1
+          ∙ ap (λ (r : List ℕ). (ws ++ vs) ++ r)
+          (ap (λ (r : List ℕ). drop n r) b.1 ∙ drop-append-drop (length ws) o ws n (omega (arith, length-append ws vs)) refl),
+    )
 
 -- the numbers of a log that passes fit its words
 pub episodes_few : (l : List ℕ) → (graph_of l).n < 2 ^ 24
@@ -46,28 +68,29 @@ pub group_length_few : (k : ℕ) → group_length k ≤ k + 1
 group_length_few zero = omega arith
 group_length_few (suc k) = omega arith
 
--- the groups of the episodes below `a` stand behind the first word: `words` and `links` count them
-pub record Copying (pause : ℕ → ℕ → ℕ) (g : Graph) (o o' : List ℕ) (words links a : ℕ) : Type 0 where
+-- the groups of the episodes below `a` stand behind the first `start` words: `words` counts all words, `links` the links
+pub record Copying (pause : ℕ → ℕ → ℕ) (g : Graph) (start : ℕ) (o o' : List ℕ) (words links a : ℕ) : Type 0 where
   pub item : a ≤ g.n
-  pub size : words ≡ 1 + length (groups pause g a)
+  pub size : words ≡ start + length (groups pause g a)
   pub count : links ≡ length (group_links g a)
-  pub begins : BeginsWith (get_or o 0 0 ∷ groups pause g a) o o'
+  pub begins : BeginsWith (take start o ++ groups pause g a) o o'
 
-pub copying_none : (pause : ℕ → ℕ → ℕ) (g : Graph) (o : List ℕ) → copy_length pause g ≤ length o → Copying pause g o o 1 0 0
+pub copying_none : (pause : ℕ → ℕ → ℕ) (g : Graph) (start : ℕ) (o : List ℕ) → start ≤ length o → Copying pause g start o o start 0 0
 unfolding groups group_links
-copying_none pause g o h = record { item = omega arith; size = refl; count = refl; begins = begins_itself o (omega arith) }
+copying_none pause g start o h =
+    record { item = omega arith; size = omega arith; count = refl; begins = rw append-nil (begins_taken start o h) }
 
-module _ {pause : ℕ → ℕ → ℕ} {g : Graph} {o o' : List ℕ} {words links a : ℕ} (s : Copying pause g o o' words links a)
-    (fits : copy_length pause g ≤ length o) where
+module _ {pause : ℕ → ℕ → ℕ} {g : Graph} {start : ℕ} {o o' : List ℕ} {words links a : ℕ} (s : Copying pause g start o o' words links a)
+    (fits : start + length (groups pause g g.n) < length o) where
   pub copying_length : length o' ≡ length o
-  copying_length = begins_length (get_or o 0 0 ∷ groups pause g a) o o' s.begins
+  copying_length = begins_length (take start o ++ groups pause g a) o o' s.begins
+
+  -- as many words stand before the next group
+  written : length (take start o ++ groups pause g a) ≡ words
+  written = omega (arith, length-append (take start o) (groups pause g a), length-take-le start o (omega arith), s.size)
 
   pub copying_at : words ≤ length o'
-  copying_at =
-      let z = s.size in
-      let e = copying_length in
-      let le : suc (length (groups pause g a)) ≤ length o = s.begins.0 in
-      omega arith
+  copying_at = omega (arith, written, copying_length, s.begins.0)
 
   module _ (n : ℕ) (count : g.n ≡ n) (h : a < n) where
     -- the part behind them has room for the next group, and for the end
@@ -82,7 +105,7 @@ module _ {pause : ℕ → ℕ → ℕ} {g : Graph} {o o' : List ℕ} {words link
     -- the next group is written there
     pub copying_on : {p o'' : List ℕ} {r more : ℕ} → GroupWritten a (pause a) (linked_to a g.links n) (take (length o' - words) (drop words o')) p r
         → o'' ≡ take words o' ++ (p ++ drop (length o' - words) (drop words o')) → more ≡ group_length r
-        → Copying pause g o o'' (words + more) (links + r) (a + 1)
+        → Copying pause g start o o'' (words + more) (links + r) (a + 1)
     copying_on {p} {o''} {r} {more} t new long =
         let bs : List ℕ = linked_to a g.links g.n in
         let r-count : r ≡ length bs = rw (← count) at t.count in
@@ -104,32 +127,45 @@ module _ {pause : ℕ → ℕ → ℕ} {g : Graph} {o o' : List ℕ} {words link
               omega arith;
           begins =
               rw (new, lent_rest o' p words)
-              (subst (λ (ws : List ℕ). BeginsWith (get_or o 0 0 ∷ ws) o (take words o' ++ p)) (sym (groups_more pause g a))
-              (begins_part (get_or o 0 0 ∷ groups pause g a) o o' s.begins (group a (pause a) bs) p words (omega (arith, s.size)) (rw (← count) at part)));
+              (subst (λ (ws : List ℕ). BeginsWith ws o (take words o' ++ p))
+              (append_assoc (take start o) (groups pause g a) (group a (pause a) bs) ∙ ap (λ (ws : List ℕ). take start o ++ ws) (sym (groups_more pause g a)))
+              (begins_part (take start o ++ groups pause g a) o o' s.begins (group a (pause a) bs) p words (sym written) (rw (← count) at part)));
         }
+
+-- where the voices words are written there is room for the groups behind them, and for the end
+pub groups_room : (pause : ℕ → ℕ → ℕ) (g : Graph) {o o' : List ℕ} {start : ℕ} → VoicesWritten g.voices g.n o o' start → copy_length pause g ≤ length o
+    → start + length (groups pause g g.n) < length o'
+groups_room pause g {o} {o'} v h = omega (arith, v.place, begins_length (get_or o 0 0 ∷ voices_words g.voices g.n) o o' v.words)
 
 -- there is room for a copy of any version where there is for one
 pub room_any_version : (v : ℕ) (pause : ℕ → ℕ → ℕ) (g : Graph) (o : List ℕ) → length (copy_words v pause g) ≤ length o → copy_length pause g ≤ length o
 room_any_version v pause g o h = omega (arith, length_copy pause g v)
 
--- the head and the end are written
-module _ (pause : ℕ → ℕ → ℕ) (g : Graph) (o o' : List ℕ) (words links : ℕ) (h : copy_length pause g ≤ length o)
-    (s : GroupsWritten pause g o o' words links) where
-  pub end_room : words < length o'
-  end_room =
-      let same = begins_length (get_or o 0 0 ∷ groups pause g g.n) o o' s.begins in
-      omega (arith, s.count)
+-- the head and the end are written, before and behind the voices words and the groups
+module _ (pause : ℕ → ℕ → ℕ) (g : Graph) (o o₁ o₂ : List ℕ) (start words links : ℕ) (h : copy_length pause g ≤ length o)
+    (v : VoicesWritten g.voices g.n o o₁ start) (s : GroupsWritten pause g start o₁ o₂ words links) where
+  abbrev front : List ℕ
+  front = get_or o 0 0 ∷ voices_words g.voices g.n
 
-  pub copy_whole : (v n : ℕ) → g.n ≡ n
-      → (words + 1 ≡ length (copy_words v pause g)) × BeginsWith (copy_words v pause g) o (set (set o' 0 (head_of v n)) words (word 15 links))
+  same_length : length o₁ ≡ length o
+  same_length = begins_length front o o₁ v.words
+
+  begins : BeginsWith (front ++ groups pause g g.n) o o₂
+  begins = begins_on front o o₁ v.words (groups pause g g.n) o₂ start (omega (arith, v.place)) s.begins
+
+  pub end_room : words < length o₂
+  end_room = omega (arith, v.place, s.count, begins_length (front ++ groups pause g g.n) o o₂ begins)
+
+  pub copy_whole : (k n : ℕ) → g.n ≡ n
+      → (words + 1 ≡ length (copy_words k pause g)) × BeginsWith (copy_words k pause g) o (set (set o₂ 0 (head_of k n)) words (word 15 links))
   unfolding copy_words
-  copy_whole v n e =
-      let z = s.count in
-      let size = length_copy pause g v in
-      let front : BeginsWith (head_of v g.n ∷ groups pause g g.n) o (set o' 0 (head_of v n)) =
-      rw (← e) (begins_first (get_or o 0 0) (head_of v g.n) (groups pause g g.n) o o' s.begins) in (
-        omega arith,
-        subst (λ (k : ℕ). BeginsWith (head_of v g.n ∷ groups pause g g.n ++ word 15 k ∷ []) o (set (set o' 0 (head_of v n)) words (word 15 links)))
+  copy_whole k n e =
+      let body : List ℕ = voices_words g.voices g.n ++ groups pause g g.n in
+      let whole : BeginsWith (head_of k g.n ∷ body) o (set o₂ 0 (head_of k n)) = rw (← e) (begins_first (get_or o 0 0) (head_of k g.n) body o o₂ begins) in
+      let size : length body ≡ length (voices_words g.voices g.n) + length (groups pause g g.n) =
+      length-append (voices_words g.voices g.n) (groups pause g g.n) in (
+        omega (arith, v.place, s.count, length_copy pause g k),
+        subst (λ (t : ℕ). BeginsWith (head_of k g.n ∷ body ++ word 15 t ∷ []) o (set (set o₂ 0 (head_of k n)) words (word 15 links)))
             s.link_count
-            (begins_more (head_of v g.n ∷ groups pause g g.n) o (set o' 0 (head_of v n)) front words (word 15 links) (omega arith) (omega arith)),
+            (begins_more (head_of k g.n ∷ body) o (set o₂ 0 (head_of k n)) whole words (word 15 links) (omega (arith, v.place, s.count)) (omega (arith, v.place, s.count))),
       )

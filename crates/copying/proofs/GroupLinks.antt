@@ -26,7 +26,7 @@ use Rattle.paths.specs.Graph.{Graph, Link, EndsBelow, Rising}
 use Rattle.paths.specs.Links.{linked, link_count}
 use Rattle.paths.proofs.Links.{count_listed}
 use Rattle.paths.proofs.Passing.{passing_nodup, passing_rising}
-use Rattle.copying.specs.FairCopy.{linked_to, groups, group_links, copy_words, Precedes, fair_need}
+use Rattle.copying.specs.FairCopy.{linked_to, groups, group_links, voices_words, copy_words, Precedes, fair_need}
 use Rattle.copying.proofs.Linked.{linked_to_mem, mem_linked_to, length_group_le, length_copy}
 
 -- the links from `a` to the members of a list
@@ -114,5 +114,5 @@ module _ (g : Graph) where
   length_groups pause (suc k) =
       simp (length-append, length-map) (omega (arith, length_groups pause k, length_group_le k (pause k) (linked_to k g.links g.n)))
 
-  pub copy_words_fit : (v : ℕ) (pause : ℕ → ℕ → ℕ) → length (copy_words v pause g) ≤ fair_need (length g.links)
+  pub copy_words_fit : (v : ℕ) (pause : ℕ → ℕ → ℕ) → length (copy_words v pause g) ≤ fair_need (length g.links) (length (voices_words g.voices g.n))
   copy_words_fit v pause = omega (arith, length_copy pause g v, length_groups pause g.n, length_group_links g.n)

@@ -1,12 +1,13 @@
 -- The words of a group, once the numbers that pass a test have been written: those that are marked in a row, or others.
 use mathlib.Core.Path.{◌≡◌, refl, sym, ◌∙◌}
 use mathlib.Core.Logic.{◌≢◌}
-use mathlib.Core.Bool.{true, false}
+use mathlib.Core.Bool.{Bool, true, false}
 use mathlib.Core.List.{List, [], ◌∷◌, map}
 use Prim.Native.Nat.{ℕ, ◌+◌, ◌≤◌, ◌<◌}
 use native.Mathlib.Omega.{arith}
 use lib.ListN.{length, get_or, set, length-append}
 use borrow.Author.Tests.{eq-eqb, ne_eqb}
+use Rattle.paths.specs.Passing.{passing}
 use Rattle.paths.proofs.Passing.{passing_more, passing_le}
 use Rattle.logs.specs.Words.{word, to_word}
 use Rattle.writing.specs.Layout.{BeginsWith}
@@ -21,13 +22,15 @@ is_marked row b ne = rw (ne_eqb (get_or row b 0) 0 ne)
 pub not_marked : (row : List ℕ) (b : ℕ) → get_or row b 0 ≡ 0 → marked_at row b ≡ false
 not_marked row b e = rw (eq-eqb (get_or row b 0) 0 e)
 
--- there is room for a marked number behind those below it
-pub marked_room : (row : List ℕ) (b : ℕ) → b < length row → get_or row b 0 ≢ 0 → length (marked row b) + 1 ≤ length (marked row (length row))
-marked_room row b h ne =
-    let more : length (marked row (b + 1)) ≡ length (marked row b) + 1 =
-    rw (passing_more (marked_at row) b (is_marked row b ne)) (length-append (marked row b) (b ∷ [])) in
-    let some = passing_le (marked_at row) (b + 1) (length row) (omega arith) in
+-- there is room for a number that passes behind those below it
+pub passing_room : (test : ℕ → Bool) (b n : ℕ) → b < n → test b ≡ true → length (passing test b) + 1 ≤ length (passing test n)
+passing_room test b n h e =
+    let more : length (passing test (b + 1)) ≡ length (passing test b) + 1 = rw (passing_more test b e) (length-append (passing test b) (b ∷ [])) in
+    let some = passing_le test (b + 1) n (omega arith) in
     omega arith
+
+pub marked_room : (row : List ℕ) (b : ℕ) → b < length row → get_or row b 0 ≢ 0 → length (marked row b) + 1 ≤ length (marked row (length row))
+marked_room row b h ne = passing_room (marked_at row) b (length row) h (is_marked row b ne)
 
 -- the from word of a group goes in front of its to words; a group of no links has no words
 module _ (a : ℕ) {pause : ℕ → ℕ} {o o' : List ℕ} {links : ℕ} where

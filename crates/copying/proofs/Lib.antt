@@ -1,5 +1,7 @@
 -- The fair copy of a log: its theorems are in FairCopies; the other modules lead to them and to the proof of the code.
 pub mod Linked
+pub mod VoicesWords
+pub mod Tables
 pub mod GroupLinks
 pub mod ReadBack
 pub mod FairCopies

@@ -13,7 +13,7 @@ use Rattle.paths.specs.Links.{linked}
 use Rattle.paths.proofs.Links.{linked_mem, mem_linked}
 use Rattle.paths.proofs.Passing.{passing_below, passing_test, test_passing}
 use Rattle.logs.specs.Words.{word, to_word}
-use Rattle.copying.specs.FairCopy.{linked_to, group, groups, group_links, copy_words, copy_length}
+use Rattle.copying.specs.FairCopy.{linked_to, group, groups, group_links, voices_words, copy_words, copy_length}
 use Rattle.copying.specs.Copying.{group_length}
 
 module _ (a : ℕ) (ls : List (ℕ × ℕ)) where
@@ -71,12 +71,14 @@ module _ (pause : ℕ → ℕ → ℕ) (g : Graph) where
       go (yes e) more = rw e (omega arith)
       go (no e) more = omega (arith, more (omega arith), length_next k)
 
-  -- the head, the groups and the end
+  -- the head, the voices words, the groups and the end
   pub length_copy : (v : ℕ) → length (copy_words v pause g) ≡ copy_length pause g
   unfolding copy_words
-  length_copy v = omega (arith, length-append (groups pause g g.n) (word 15 (length (group_links g g.n)) ∷ []))
+  length_copy v =
+      let end : List ℕ = word 15 (length (group_links g g.n)) ∷ [] in
+      omega (arith, length-append (voices_words g.voices g.n ++ groups pause g g.n) end, length-append (voices_words g.voices g.n) (groups pause g g.n))
 
-  -- where the group of `a` goes, there is room for it, and for the end behind it
+  -- where the group of `a` goes, there is room for it
   pub group_room : (a : ℕ) → a < g.n
-      → 1 + length (groups pause g a) + length (group a (pause a) (linked_to a g.links g.n)) < copy_length pause g
+      → length (groups pause g a) + length (group a (pause a) (linked_to a g.links g.n)) ≤ length (groups pause g g.n)
   group_room a h = omega (arith, length_next a, length_groups_le (suc a) g.n (omega arith))

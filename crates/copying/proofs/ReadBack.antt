@@ -1,5 +1,7 @@
--- A copy read back: it tells its version and the links of its groups with their pauses, and it passes questions 1 to 10 and 18.
+-- A copy read back: it tells its version, the voices of its episodes and the links of its groups with their pauses, and it passes questions 1 to 10 and
+-- 18 to 21.
 use mathlib.Core.Path.{◌≡◌, refl, ◌∙◌, ap, ap₂, sym}
+use mathlib.Core.Logic.{◌≢◌}
 use mathlib.Core.Bool.{Bool, true, false, or-true}
 use mathlib.Core.List.Memᴰ.{head as here}
 use mathlib.Core.List.Memᴰ.{tail as there}
@@ -18,27 +20,54 @@ use mathlib.Core.List.{
 use Prim.Native.Nat.{ℕ, zero, suc, ◌+◌, ◌^◌, ◌<◌, ◌≤◌}
 use native.Mathlib.Nat.{add-zero}
 use native.Mathlib.Omega.{arith}
-use lib.ListN.{length, length-append, length-map}
+use lib.ListN.{length, get_or, drop, length-append, length-map}
 use borrow.Author.Tests.{le-leb}
 use Rattle.order.specs.Order.{All}
 use Rattle.paths.specs.Graph.{Graph, Link}
-use Rattle.logs.specs.Words.{word, head_episodes, head_of, to_word, Small}
+use Rattle.paths.proofs.Passing.{passing_nodup}
+use Rattle.logs.specs.Words.{kind, word, head_episodes, head_of, to_word, Small}
 use Rattle.logs.specs.Content.{Heard, joins, heard_graph}
 use Rattle.logs.specs.Answer.{Answer, given, and_then}
-use Rattle.logs.specs.Log.{head_word, onwards, questions, heard_from, content_of}
+use Rattle.logs.specs.Log.{
+  most_with_voices,
+  most_voices,
+  head_word,
+  onwards,
+  questions,
+  marks_of,
+  voices_by,
+  heard_from,
+  content_of,
+}
 use Rattle.logs.specs.Groups.{last_from}
 use Rattle.logs.specs.declared.Ceilings.{Ceilings}
 use Rattle.logs.proofs.Words.{kind_word, number_word, head_kind, head_version_lem, head_episodes_lem, to_kind, to_episode_lem, to_pause_lem}
 use Rattle.logs.proofs.Asked.{FromTaken, ToTaken, there_to, from_given, to_given, end_given}
+use Rattle.logs.proofs.Marks.{marks_nil, marks_other, marks_append}
+use Rattle.logs.proofs.Voices.{MarksTaken, questions_passed}
 use Rattle.logs.proofs.Links.{heard_from_lem, heard_to, heard_end, heard_nil, heard_append}
-use Rattle.copying.specs.FairCopy.{linked_to, group, groups, group_links, copy_words}
+use Rattle.copying.specs.FairCopy.{linked_to, group, groups, group_links, not_one, voices_words, copy_words}
 use Rattle.copying.proofs.Linked.{linked_to_mem}
 use Rattle.copying.proofs.GroupLinks.{links_of, length_group_links}
+use Rattle.copying.proofs.VoicesWords.{
+  others,
+  marked_with,
+  words_of,
+  other_mem,
+  FitsWord,
+  words_kind,
+  words_marks,
+  words_heard,
+  marks_taken,
+  voices_told,
+}
 
--- the version is known, and the numbers of a graph and the pauses of its links fit the words of a log
+-- the version is known, the voices are those of a log, and the numbers of a graph and the pauses of its links fit the words of a log
 pub record Fits (v : ℕ) (pause : ℕ → ℕ → ℕ) (g : Graph) : Type 0 where
   pub known : v ≤ 1
   pub few : g.n < 2 ^ 24
+  pub voices : (u : ℕ) → u < g.n → g.voices u ≤ most_voices
+  pub most : (u : ℕ) → u < g.n → g.voices u ≢ 1 → g.n ≤ most_with_voices
   pub count : Small (length g.links)
   pub links : (a b : ℕ) → Link g a b → (b < 2 ^ 16) × (pause a b < 2 ^ 12)
 
@@ -64,7 +93,28 @@ module _ (a : ℕ) (p : ℕ → ℕ) where
   group_heard c (b ∷ bs) s h =
       heard_from_lem c (word 2 a) (map (λ (d : ℕ). to_word d (p d)) (b ∷ bs)) (kind_word 2 a s) ∙ rw (number_word 2 a s) (to_heard (b ∷ bs) h)
 
+-- the words of a group give no marks
+tos_unmarked : (p : ℕ → ℕ) (bs : List ℕ) → All (λ b. (b < 2 ^ 16) × (p b < 2 ^ 12)) bs → marks_of (map (λ (b : ℕ). to_word b (p b)) bs) ≡ []
+tos_unmarked p [] h = marks_nil
+tos_unmarked p (b ∷ bs) h =
+    let (low, short) = h b (here refl) in
+    let k = to_kind b (p b) low short in
+    marks_other (to_word b (p b)) (map (λ (c : ℕ). to_word c (p c)) bs) (λ e. omega arith) ∙ tos_unmarked p bs (λ c m. h c (there m))
+
+group_unmarked : (a : ℕ) (p : ℕ → ℕ) (bs : List ℕ) → Small a → All (λ b. (b < 2 ^ 16) × (p b < 2 ^ 12)) bs → marks_of (group a p bs) ≡ []
+unfolding group
+group_unmarked a p [] small h = marks_nil
+group_unmarked a p (b ∷ bs) small h =
+    let k = kind_word 2 a small in
+    marks_other (word 2 a) (map (λ (c : ℕ). to_word c (p c)) (b ∷ bs)) (λ e. omega arith) ∙ tos_unmarked p (b ∷ bs) h
+
 module _ (v : ℕ) (pause : ℕ → ℕ → ℕ) (g : Graph) (fits : Fits v pause g) where
+  -- what is written of an episode with other voices than one fits
+  pub others_fit : All (FitsWord g.voices) (others g.voices g.n)
+  others_fit u m =
+      let (low, ne) = other_mem g.voices g.n m in
+      (omega (arith, fits.most u low ne), omega (arith, fits.voices u low))
+
   -- what is written of the links of an episode fits
   row_fits : (a : ℕ) → All (λ b. (b < 2 ^ 16) × (pause a b < 2 ^ 12)) (linked_to a g.links g.n)
   row_fits a b m = fits.links a b (linked_to_mem a g.links b g.n m).1
@@ -81,6 +131,15 @@ module _ (v : ℕ) (pause : ℕ → ℕ → ℕ) (g : Graph) (fits : Fits v paus
       ∙ sym (map-map (paused pause) (λ (b : ℕ). (k, b)) bs))
       ∙ sym (map-append (paused pause) (group_links g k) (links_of k bs))
 
+  groups_unmarked : (k : ℕ) → k ≤ g.n → marks_of (groups pause g k) ≡ []
+  unfolding groups
+  groups_unmarked zero h = marks_nil
+  groups_unmarked (suc k) h =
+      let bs : List ℕ = linked_to k g.links g.n in
+      let small = fits.few in
+      marks_append (groups pause g k) (group k (pause k) bs)
+      ∙ ap₂ (λ (xs ys : List (ℕ × ℕ)). xs ++ ys) (groups_unmarked k (omega arith)) (group_unmarked k (pause k) bs (omega arith) (row_fits k))
+
   -- the count of its to words fits the end
   pub count_fits : Small (length (group_links g g.n))
   count_fits = omega (arith, fits.count, length_group_links g g.n)
@@ -94,12 +153,33 @@ module _ (v : ℕ) (pause : ℕ → ℕ → ℕ) (g : Graph) (fits : Fits v paus
   unfolding copy_words
   copy_episodes = head_episodes_lem v g.n (omega (arith, fits.known)) fits.few
 
+  -- the marks of its voices words are the episodes with other voices than one
+  pub copy_marks : marks_of (drop 1 (copy_words v pause g)) ≡ map (marked_with g.voices) (others g.voices g.n)
+  unfolding copy_words voices_words
+  copy_marks =
+      let t : ℕ = length (group_links g g.n) in
+      let vs : List ℕ = words_of g.voices (others g.voices g.n) in
+      let k = kind_word 15 t count_fits in
+      marks_append (vs ++ groups pause g g.n) (word 15 t ∷ [])
+      ∙ ap₂ (λ (xs ys : List (ℕ × ℕ)). xs ++ ys)
+      (marks_append vs (groups pause g g.n)
+      ∙ ap₂ (λ (xs ys : List (ℕ × ℕ)). xs ++ ys) (words_marks g.voices (others g.voices g.n) others_fit) (groups_unmarked g.n (omega arith))
+      ∙ append-nil (map (marked_with g.voices) (others g.voices g.n)))
+      (marks_other (word 15 t) [] (λ e. omega arith) ∙ marks_nil)
+      ∙ append-nil (map (marked_with g.voices) (others g.voices g.n))
+
+  -- so its episodes have the voices that they had
+  pub copy_voices : (u : ℕ) → u < g.n → (content_of (copy_words v pause g)).voices u ≡ g.voices u
+  copy_voices u h = ap (λ (ms : List (ℕ × ℕ)). voices_by ms u) copy_marks ∙ voices_told g.voices u g.n h
+
   pub copy_heard : (content_of (copy_words v pause g)).heard ≡ map (paused pause) (group_links g g.n)
-  unfolding copy_words
+  unfolding copy_words voices_words
   copy_heard =
       let t : ℕ = length (group_links g g.n) in
       let c : ℕ = last_from 0 (groups pause g g.n) in
-      heard_append 0 (groups pause g g.n) (word 15 t ∷ [])
+      ap (heard_from 0) (append_assoc (words_of g.voices (others g.voices g.n)) (groups pause g g.n) (word 15 t ∷ []))
+      ∙ words_heard g.voices 0 (others g.voices g.n) (groups pause g g.n ++ word 15 t ∷ []) others_fit
+      ∙ heard_append 0 (groups pause g g.n) (word 15 t ∷ [])
       ∙ rw (heard_end c (word 15 t) [] (kind_word 15 t count_fits), heard_nil, append-nil) (groups_heard 0 g.n (omega arith))
 
   pub copy_links : (heard_graph (content_of (copy_words v pause g))).links ≡ group_links g g.n
@@ -172,25 +252,46 @@ module _ (m : Ceilings) (v : ℕ) (pause : ℕ → ℕ → ℕ) (g : Graph) (fit
       (λ b i. let (low, short) = row_fits v pause g fits k b i in ((linked_to_mem k g.links b g.n i).0, low, short)) l (omega arith)
       (rw same at more)))
 
--- questions 1 to 10 and 18, of a head `w` with words behind it
-over_head : (m : Ceilings) (w : ℕ) (s : List ℕ) → 0 < length s
-    → questions m (w ∷ s) ≡ and_then (head_word m w) (over m (head_episodes w) 1 s false 0)
-unfolding questions
-over_head m w [] h = absurd (omega arith)
-over_head m w (x ∷ rest) h = refl
+-- behind voices words stands a from word or the end
+groups_first : (pause : ℕ → ℕ → ℕ) (g : Graph) (k : ℕ) (s : List ℕ) → k ≤ g.n → g.n < 2 ^ 24 → kind (get_or s 0 0) ≢ 9
+    → kind (get_or (groups pause g k ++ s) 0 0) ≢ 9
+unfolding groups group
+groups_first pause g zero s h few ne = ne
+groups_first pause g (suc k) s h few ne =
+    rw append_assoc
+    (groups_first pause g k (group k (pause k) (linked_to k g.links g.n) ++ s) (omega arith) few (first (linked_to k g.links g.n)))
+  where
+    first : (bs : List ℕ) → kind (get_or (group k (pause k) bs ++ s) 0 0) ≢ 9
+    first [] = ne
+    first (b ∷ bs) = λ e. omega (arith, kind_word 2 k (omega arith))
 
--- a copy passes questions 1 to 10 and 18 where its episodes and links fit the ceilings
+-- questions 1 to 10 and 18 to 21, of a head `w`, voices words `ws` whose marks are taken, and the words `s` behind these
+over_head : (m : Ceilings) (w : ℕ) (ws s : List ℕ) → All (λ x. kind x ≡ 9) ws → MarksTaken (head_episodes w) (marks_of ws) → 0 < length s
+    → kind (get_or s 0 0) ≢ 9 → questions m (w ∷ ws ++ s) ≡ and_then (head_word m w) (over m (head_episodes w) (1 + length ws) s false 0)
+over_head m w ws [] k taken h ne = absurd (omega arith)
+over_head m w ws (x ∷ rest) k taken h ne = questions_passed m w ws x rest k taken (λ long. ne)
+
+-- a copy passes questions 1 to 10 and 18 to 21 where its episodes and links fit the ceilings
 pub copy_passes : (m : Ceilings) (v : ℕ) (pause : ℕ → ℕ → ℕ) (g : Graph) → Fits v pause g → g.n ≤ m.episodes
     → length (group_links g g.n) ≤ m.words → questions m (copy_words v pause g) ≡ given (g.n, length (group_links g g.n))
-unfolding copy_words onwards
+unfolding copy_words voices_words onwards
 copy_passes m v pause g fits fit room =
     let n : ℕ = g.n in
     let t : ℕ = length (group_links g n) in
     let few = fits.few in
     let small = count_fits v pause g fits in
     let high : v < 2 ^ 4 = omega (arith, fits.known) in
+    let k = kind_word 15 t small in
     let end : List ℕ = word 15 t ∷ [] in
-    let last : Answers m n end t (given (n, t)) = λ p before. rw (end_given p (word 15 t) t (kind_word 15 t small) (number_word 15 t small)) in
-    over_head m (head_of v n) (groups pause g n ++ end) (simp length-append (omega arith))
+    let vs : List ℕ = others g.voices n in
+    let ws : List ℕ = words_of g.voices vs in
+    let last : Answers m n end t (given (n, t)) = λ p before. rw (end_given p (word 15 t) t k (number_word 15 t small)) in
+    let taken : MarksTaken (head_episodes (head_of v n)) (marks_of ws) =
+    rw (head_episodes_lem v n high few, words_marks g.voices vs (others_fit v pause g fits))
+    (marks_taken g.voices n vs
+    (λ u i. let (low, ne) = other_mem g.voices n i in (low, fits.voices u low, fits.most u low ne)) (passing_nodup (not_one g.voices) n)) in
+    ap (λ (s : List ℕ). questions m (head_of v n ∷ s)) (append_assoc ws (groups pause g n) end)
+    ∙ over_head m (head_of v n) ws (groups pause g n ++ end) (words_kind g.voices vs (others_fit v pause g fits)) taken
+    (simp length-append (omega arith)) (groups_first pause g n end (omega arith) few (λ e. omega arith))
     ∙ rw (head_kind v n high few, head_version_lem v n high few, head_episodes_lem v n high few, le-leb v 1 fits.known, le-leb n m.episodes fit)
-    (over_groups m v pause g fits n (omega arith) room end (given (n, t)) (omega arith) last 1 false)
+    (over_groups m v pause g fits n (omega arith) room end (given (n, t)) (omega arith) last (1 + length ws) false)

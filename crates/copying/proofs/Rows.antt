@@ -20,14 +20,14 @@ use Rattle.paths.specs.Links.{linked}
 use Rattle.paths.proofs.Links.{linked_mem, mem_linked}
 use Rattle.logs.specs.Words.{to_episode, to_pause, to_word}
 use Rattle.logs.specs.Content.{Heard, Content, joins, pauses_of, least, least_pause}
-use Rattle.logs.specs.Log.{content_of}
+use Rattle.logs.specs.Log.{content_of, voices_count}
 use Rattle.logs.specs.Groups.{heard_before, told, EpisodesBelow}
 use Rattle.logs.specs.Passing.{Given}
 use Rattle.logs.specs.declared.passed.Log.{Log}
 use Rattle.logs.specs.declared.passed.Group.{Group}
 use Rattle.logs.specs.declared.passed.Groups.{Groups}
 use Rattle.logs.proofs.Pauses.{pauses_append, pauses_one, pauses_none, pauses_heard, heard_pauses, link_heard, least_mem, least_more}
-use Rattle.logs.proofs.Laws.{graph_episodes, before_head, heard_passed}
+use Rattle.logs.proofs.Laws.{graph_episodes, voices_end, before_groups, heard_passed}
 use Rattle.logs.proofs.Passing.{heard_group}
 use Rattle.writing.specs.Layout.{BeginsWith}
 use Rattle.copying.specs.FairCopy.{linked_to}
@@ -36,6 +36,7 @@ use Rattle.copying.specs.Copying.{
   lowered,
   block_words,
   row_at,
+  RowMarks,
   BlockMarks,
   Lowered,
   GroupTaken,
@@ -71,22 +72,18 @@ pauses_other : (a b : ℕ) (h : Heard) (hs : List Heard) → ((a ≡ h.from) × 
 pauses_other a b h hs ne =
     pauses_append a b hs (h ∷ []) ∙ ap (λ (ps : List ℕ). pauses_of a b hs ++ ps) (pauses_none a b h ne) ∙ append-nil (pauses_of a b hs)
 
--- version `v`, `n` episodes and these links
-abbrev content : ℕ → ℕ → List Heard → Content
-content v n hs = record { version = v; n = n; heard = hs }
-
 -- words that are zero mark no link
-marks_none : (block v n : ℕ) (w : List ℕ) → w ≡ replicate (length w) 0 → BlockMarks block (content v n []) w
+marks_none : (block n : ℕ) (w : List ℕ) → w ≡ replicate (length w) 0 → RowMarks block n [] w
 unfolding pauses_of
-marks_none block v n w zeros a b h l = rw zeros (zero (length w) (row_at a + b))
+marks_none block n w zeros a b h l = rw zeros (zero (length w) (row_at a + b))
   where
     zero : (k i : ℕ) → get_or {A = ℕ} (replicate k 0) i 0 ≡ 0
     zero k i = grind (arith, get_or-replicate, get_or_past, length-replicate)
 
 -- a link from an episode of the block is marked in its row
-marks_here : (block v n : ℕ) (k : Heard) (hs : List Heard) (w w' : List ℕ) → n ≤ 256 → k.to < 256 → k.from / 64 ≡ block
-    → BlockMarks block (content v n hs) w → Lowered (row_at k.from + k.to) k.pause w w' → BlockMarks block (content v n (hs ++ k ∷ [])) w'
-marks_here block v n k hs w w' few low hf m d a b h l = go (ℕ_discrete a k.from) (ℕ_discrete b k.to)
+marks_here : (block n : ℕ) (k : Heard) (hs : List Heard) (w w' : List ℕ) → n ≤ 256 → k.to < 256 → k.from / 64 ≡ block
+    → RowMarks block n hs w → Lowered (row_at k.from + k.to) k.pause w w' → RowMarks block n (hs ++ k ∷ []) w'
+marks_here block n k hs w w' few low hf m d a b h l = go (ℕ_discrete a k.from) (ℕ_discrete b k.to)
   where
     other : row_at a + b ≢ row_at k.from + k.to → ((a ≡ k.from) × (b ≡ k.to) → ⊥)
         → get_or w' (row_at a + b) 0 ≡ mark (pauses_of a b (hs ++ k ∷ []))
@@ -100,9 +97,9 @@ marks_here block v n k hs w w' few low hf m d a b h l = go (ℕ_discrete a k.fro
     go (yes e) (no ne) = other (λ q. ne (omega arith)) (λ q. ne q.1)
 
 -- a link from another episode is not marked
-marks_other : (block v n : ℕ) (k : Heard) (hs : List Heard) (w : List ℕ) → k.from / 64 ≢ block → BlockMarks block (content v n hs) w
-    → BlockMarks block (content v n (hs ++ k ∷ [])) w
-marks_other block v n k hs w ne m a b h l = rw (pauses_other a b k hs (λ q. ne (omega (arith, q.0)))) (m a b h l)
+marks_other : (block n : ℕ) (k : Heard) (hs : List Heard) (w : List ℕ) → k.from / 64 ≢ block → RowMarks block n hs w
+    → RowMarks block n (hs ++ k ∷ []) w
+marks_other block n k hs w ne m a b h l = rw (pauses_other a b k hs (λ q. ne (omega (arith, q.0)))) (m a b h l)
 
 -- one link more behind others
 told_more : (a i : ℕ) (ws : List ℕ) (hs : List Heard) → i < length ws
@@ -117,34 +114,33 @@ pub group_more : (a : ℕ) (ws : List ℕ) (i : ℕ) {w w' w'' : List ℕ} → E
 group_more a ws i {w' = w'} {w'' = w''} below h s d =
     record {
       same_length = d.same_length ∙ s.same_length;
-      marks = λ v n hs few m.
-          let more = marks_here (a / 64) v n (told a (get_or ws i 0)) (hs ++ map (told a) (take i ws)) w' w'' few (below i h) refl (s.marks v n hs few m) d in
-          subst (λ q. BlockMarks (a / 64) (content v n q) w'') (sym (told_more a i ws hs h)) more;
+      marks = λ n hs few m.
+          let more = marks_here (a / 64) n (told a (get_or ws i 0)) (hs ++ map (told a) (take i ws)) w' w'' few (below i h) refl (s.marks n hs few m) d in
+          subst (λ q. RowMarks (a / 64) n q w'') (sym (told_more a i ws hs h)) more;
     }
 
 -- those of a group from another block are passed over
 pub group_passed : (block a : ℕ) (ws w : List ℕ) → a / 64 ≢ block → GroupTaken block a ws w w
-group_passed block a ws w other = record { same_length = refl; marks = λ v n hs few m. none v n ws hs m }
+group_passed block a ws w other = record { same_length = refl; marks = λ n hs few m. none n ws hs m }
   where
-    none : (v n : ℕ) (vs : List ℕ) (hs : List Heard) → BlockMarks block (content v n hs) w → BlockMarks block (content v n (hs ++ map (told a) vs)) w
-    none v n [] hs m = rw append-nil m
-    none v n (x ∷ vs) hs m =
-        rw append_assoc at (none v n vs (hs ++ told a x ∷ []) (marks_other block v n (told a x) hs w other m))
+    none : (n : ℕ) (vs : List ℕ) (hs : List Heard) → RowMarks block n hs w → RowMarks block n (hs ++ map (told a) vs) w
+    none n [] hs m = rw append-nil m
+    none n (x ∷ vs) hs m =
+        rw append_assoc at (none n vs (hs ++ told a x ∷ []) (marks_other block n (told a x) hs w other m))
 
 -- before the group at `s` the block marks the links of the words there
 pub record Marking (w : List ℕ) (block : ℕ) (s : Groups) : Type 0 where
   pub few : s.log.episodes ≤ 256
-  pub marks : BlockMarks block (content (content_of s.log.words.now).version s.log.episodes (heard_before s.log.words.now s.at)) w
+  pub marks : RowMarks block s.log.episodes (heard_before s.log.words.now s.at) w
 
-pub marking_start : (s : Groups) (w : List ℕ) (block : ℕ) → s.at ≡ 1 → s.log.episodes ≤ 256 → w ≡ replicate (length w) 0 → Marking w block s
+pub marking_start : (s : Groups) (w : List ℕ) (block : ℕ) → s.at ≡ s.log.voices_words + 1 → s.log.episodes ≤ 256
+    → w ≡ replicate (length w) 0 → Marking w block s
 marking_start s w block first few zeros =
-    let within = s.here.within in
-    let v = (content_of s.log.words.now).version in
-    let none : heard_before s.log.words.now s.at ≡ [] = ap (heard_before s.log.words.now) first ∙ before_head s.log.words.now (omega arith) in
-    record {
-      few = few;
-      marks = subst (λ q. BlockMarks block (content v s.log.episodes q) w) (sym none) (marks_none block v s.log.episodes w zeros);
-    }
+    let l = s.log.words.now in
+    let none : heard_before l s.at ≡ [] =
+    ap (heard_before l) (first ∙ ap (λ (k : ℕ). k + 1) s.log.voices)
+    ∙ before_groups l (voices_count l + 1) (voices_end _ l s.log.episodes s.log.to_words s.log.passes) in
+    record { few = few; marks = subst (λ q. RowMarks block s.log.episodes q w) (sym none) (marks_none block s.log.episodes w zeros) }
 
 pub marking_on : {w w' : List ℕ} {block : ℕ} {s : Groups} {g : Group} {t : Groups} → Marking w block s → Given s g t
     → GroupTaken block g.from g.to_words.now w w' → Marking w' block t
@@ -152,9 +148,8 @@ marking_on {w' = w'} {block} {s} {g} {t} m d k =
     record {
       few = rw d.same m.few;
       marks =
-          let v = (content_of s.log.words.now).version in
-          subst (λ (l : Log). BlockMarks block (content (content_of l.words.now).version l.episodes (heard_before l.words.now t.at)) w') (sym d.same)
-          (subst (λ q. BlockMarks block (content v s.log.episodes q) w') (sym (heard_group s g t d)) (k.marks v s.log.episodes _ m.few m.marks));
+          subst (λ (l : Log). RowMarks block l.episodes (heard_before l.words.now t.at) w') (sym d.same)
+          (subst (λ q. RowMarks block s.log.episodes q w') (sym (heard_group s g t d)) (k.marks s.log.episodes _ m.few m.marks));
     }
 
 -- at the last word the block marks the links of the log
@@ -165,12 +160,15 @@ marking_end {w} {block} s m h =
     let last : s.at ≡ length l - 1 = omega arith in
     let heard = ap (heard_before l) last ∙ heard_passed _ l s.log.episodes s.log.to_words s.log.passes in
     let n = graph_episodes _ l s.log.episodes s.log.to_words s.log.passes in
-    let v = (content_of l).version in
-    subst (λ (k : ℕ). BlockMarks block (content v k (content_of l).heard) w) (sym n) (subst (λ q. BlockMarks block (content v s.log.episodes q) w) heard m.marks)
+    subst (λ (k : ℕ). RowMarks block k (content_of l).heard w) (sym n) (subst (λ q. RowMarks block s.log.episodes q w) heard m.marks)
 
 -- the row holds the mark of each link from `a`
 abbrev Marks : ℕ → List Heard → List ℕ → Type 0
 Marks a hs row = (b : ℕ) → b < length row → get_or row b 0 ≡ mark (pauses_of a b hs)
+
+-- a log with these links
+abbrev told_of : List Heard → Content
+told_of hs = record { version = 0; n = 0; voices = λ v. 1; heard = hs }
 
 -- a link is marked exactly where it was heard
 mark_linked : (a b : ℕ) (hs : List Heard) → not (eqb (mark (pauses_of a b hs)) 0) ≡ linked a b (map joins hs)
@@ -178,13 +176,13 @@ mark_linked a b hs = go (pauses_of a b hs) refl (linked a b (map joins hs)) refl
   where
     go : (ps : List ℕ) → pauses_of a b hs ≡ ps → (x : Bool) → linked a b (map joins hs) ≡ x → not (eqb (mark ps) 0) ≡ x
     go [] e true f =
-        let (p, h) = (link_heard (content 0 0 hs) a b).0 (linked_mem a b (map joins hs) f) in
+        let (p, h) = (link_heard (told_of hs) a b).0 (linked_mem a b (map joins hs) f) in
         absurd (not-nil (rw e at (heard_pauses a b p hs h)))
     go [] e false f = refl
     go (p ∷ ps) e true f = rw (ne_eqb (mark (p ∷ ps)) 0 (λ q. omega arith))
     go (p ∷ ps) e false f =
         let h = pauses_heard a b p hs (rw e (here refl)) in
-        absurd (true≢false (sym (mem_linked a b (map joins hs) ((link_heard (content 0 0 hs) a b).1 (p, h))) ∙ f))
+        absurd (true≢false (sym (mem_linked a b (map joins hs) ((link_heard (told_of hs) a b).1 (p, h))) ∙ f))
 
 module _ (a : ℕ) (hs : List Heard) (row : List ℕ) (m : Marks a hs row) where
   -- what is marked is what `a` is linked to

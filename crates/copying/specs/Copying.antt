@@ -1,11 +1,11 @@
 -- What the steps to a fair copy leave.
-use Rattle.std.specs.Prelude.{◌≡◌, ◌≢◌, Bool, not, List, [], ◌∷◌, ◌++◌, map, ℕ, zero, suc, ◌+◌, ◌-◌, ◌*◌, ◌/◌, ◌%◌, ◌≤◌, ◌<◌, min, eqb, length, get_or}
+use Rattle.std.specs.Prelude.{◌≡◌, ◌≢◌, Bool, not, List, [], ◌∷◌, ◌++◌, map, ℕ, zero, suc, ◌+◌, ◌-◌, ◌*◌, ◌/◌, ◌%◌, ◌≤◌, ◌<◌, min, eqb, length, get_or, take}
 use Rattle.paths.specs.Graph.{Graph}
 use Rattle.paths.specs.Passing.{passing}
 use Rattle.logs.specs.Words.{to_word}
 use Rattle.logs.specs.Content.{Heard, Content, pauses_of, least}
 use Rattle.logs.specs.Groups.{told}
-use Rattle.copying.specs.FairCopy.{group, groups, group_links}
+use Rattle.copying.specs.FairCopy.{group, groups, group_links, voices_words}
 use Rattle.writing.specs.Layout.{BeginsWith}
 
 -- the mark of a link by the pauses that were heard of it: the least plus one, 0 where there are none
@@ -26,9 +26,13 @@ block_words = 16384
 abbrev pub row_at : ℕ → ℕ
 row_at a = a % 64 * 256
 
--- the rows of the episodes of the block hold the marks of the links from them
+-- the rows of the episodes of the block hold the marks of the links from them to episodes below `n`, of those that were heard
+abbrev pub RowMarks : ℕ → ℕ → List Heard → List ℕ → Type 0
+RowMarks block n hs w = (a b : ℕ) → a / 64 ≡ block → b < n → get_or w (row_at a + b) 0 ≡ mark (pauses_of a b hs)
+
+-- the same, of a log
 abbrev pub BlockMarks : ℕ → Content → List ℕ → Type 0
-BlockMarks block c w = (a b : ℕ) → a / 64 ≡ block → b < c.n → get_or w (row_at a + b) 0 ≡ mark (pauses_of a b c.heard)
+BlockMarks block c w = RowMarks block c.n c.heard w
 
 -- the mark at `at` is lowered by the pause `p`
 pub record Lowered (at p : ℕ) (w w' : List ℕ) : Type 0 where
@@ -39,8 +43,7 @@ pub record Lowered (at p : ℕ) (w w' : List ℕ) : Type 0 where
 -- the links that the to words `ws` of a group of `a` give are marked where `a` is in the block, and `hs` were heard before
 pub record GroupTaken (block a : ℕ) (ws w w' : List ℕ) : Type 0 where
   pub same_length : length w' ≡ length w
-  pub marks : (v n : ℕ) (hs : List Heard) → n ≤ 256 → BlockMarks block (record { version = v; n = n; heard = hs }) w
-      → BlockMarks block (record { version = v; n = n; heard = hs ++ map (told a) ws }) w'
+  pub marks : (n : ℕ) (hs : List Heard) → n ≤ 256 → RowMarks block n hs w → RowMarks block n (hs ++ map (told a) ws) w'
 
 -- whether the row has a mark at `b`
 abbrev pub marked_at : List ℕ → ℕ → Bool
@@ -69,8 +72,17 @@ pub record GroupWritten (a : ℕ) (pause : ℕ → ℕ) (bs o o' : List ℕ) (r 
   pub count : r ≡ length bs
   pub words : BeginsWith (group a pause bs) o o'
 
--- behind the first word the groups of all episodes are written: `words` and `links` count them
-pub record GroupsWritten (pause : ℕ → ℕ → ℕ) (g : Graph) (o o' : List ℕ) (words links : ℕ) : Type 0 where
-  pub count : words ≡ 1 + length (groups pause g g.n)
+-- behind the first `start` words the groups of all episodes are written: `words` counts all words, `links` the links
+pub record GroupsWritten (pause : ℕ → ℕ → ℕ) (g : Graph) (start : ℕ) (o o' : List ℕ) (words links : ℕ) : Type 0 where
+  pub count : words ≡ start + length (groups pause g g.n)
   pub link_count : links ≡ length (group_links g g.n)
-  pub begins : BeginsWith (get_or o 0 0 ∷ groups pause g g.n) o o'
+  pub begins : BeginsWith (take start o ++ groups pause g g.n) o o'
+
+-- the voices of an episode as a table says
+abbrev pub said : List ℕ → ℕ → ℕ
+said table v = get_or table v 0
+
+-- behind the first word the voices words of `n` episodes are written; `r` is the place behind them
+pub record VoicesWritten (voices : ℕ → ℕ) (n : ℕ) (o o' : List ℕ) (r : ℕ) : Type 0 where
+  pub place : r ≡ 1 + length (voices_words voices n)
+  pub words : BeginsWith (get_or o 0 0 ∷ voices_words voices n) o o'

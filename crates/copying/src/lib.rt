@@ -1,20 +1,20 @@
-// The fair copy of a log, block by block: the links from 64 episodes are marked in one pass over the log, in a row of 256 words for each
-// episode; then the marked ones are written, row by row, to a lent output, since nothing is allocated; what is written is counted. A `Log` passes at
-// any ceilings, so the contracts that want few episodes say so.
+// The fair copy of a log: behind the head the voices words are written, from a table of the voices, and then the groups, block by block: the links
+// from 64 episodes are marked in one pass over the log, in a row of 256 words for each episode, and the marked ones are written, row by row, to a lent
+// output, since nothing is allocated; what is written is counted. A `Log` passes at any ceilings, so the contracts that want few episodes say so.
 #![tactic(auto)]
 
-ghost use Rattle.std.specs.Prelude.{◌≡◌, ◌≢◌, List, ℕ, ◌/◌, ◌%◌, ◌^◌, ◌<◌, ◌≤◌, length, get_or, replicate, set};
+ghost use Rattle.std.specs.Prelude.{◌≡◌, ◌≢◌, not, List, ℕ, ◌+◌, ◌/◌, ◌%◌, ◌^◌, ◌<◌, ◌≤◌, eqb, length, get_or, replicate, set};
 ghost use Rattle.logs.specs.Words.{word, head_of, Small};
 ghost use Rattle.logs.specs.Content.{heard_graph, least_pause};
 ghost use Rattle.logs.specs.Log.{content_of};
 ghost use Rattle.logs.specs.Groups.{EpisodesBelow};
 ghost use Rattle.writing.specs.Layout.{BeginsWith};
-ghost use Rattle.copying.specs.FairCopy.{linked_to, group, copy_words, copy_length, fair_words};
+ghost use Rattle.copying.specs.FairCopy.{linked_to, group, groups, voices_words, copy_words, copy_length, fair_words};
 ghost use Rattle.copying.specs.Calls.{WritesLinks};
 ghost use Rattle.paths.specs.Graph.{Graph};
-ghost use Rattle.copying.specs.Copying.{BlockMarks, Lowered, GroupTaken, marked, pause_at, group_length, LinksWritten, GroupWritten, GroupsWritten};
+ghost use Rattle.copying.specs.Copying.{BlockMarks, Lowered, GroupTaken, marked, pause_at, group_length, LinksWritten, GroupWritten, GroupsWritten, said, VoicesWritten};
 
-use logs::{Group, Head, Kind, Log, ToWord};
+use logs::{Group, Head, Kind, Log, ToWord, VoicesWord};
 
 // The words of a block: as many as the work words of a call (`report::WORK_WORDS`), which are lent for it.
 pub const BLOCK: usize = 16384;
@@ -108,18 +108,19 @@ pub struct Written {
     pub links: usize,
 }
 
-// Writes the groups of all episodes behind the first word, the links of each by a call of `write_row`.
+// Writes the groups of all episodes behind the first `start` words, the links of each by a call of `write_row`.
 fn write_groups<F: FnMut(usize, &mut [u32]) -> usize>(
     n: usize,
+    start: usize,
     out: &mut [u32],
     mut write_row: F,
 ) -> Written
     requires { (pause : ℕ → ℕ → ℕ) × (g : Graph) × WritesLinks F.pre F.step pause g write_row × (g.n ≡ n) × Small n
-        × Small (length g.links) × (copy_length pause g ≤ length out.old) }
-    ensures { (pause : ℕ → ℕ → ℕ) (g : Graph) → WritesLinks F.pre F.step pause g write_row → g.n ≡ n → copy_length pause g ≤ length out.old
-        → GroupsWritten pause g out.old out.new result.words result.links }
+        × Small (length g.links) × (start + length (groups pause g g.n) < length out.old) }
+    ensures { (pause : ℕ → ℕ → ℕ) (g : Graph) → WritesLinks F.pre F.step pause g write_row → g.n ≡ n
+        → start + length (groups pause g g.n) < length out.old → GroupsWritten pause g start out.old out.new result.words result.links }
 {
-    let mut words = 1;
+    let mut words = start;
     let mut links = 0;
     for a in 0..n {
         let group = &mut out[words..];
@@ -131,7 +132,7 @@ fn write_groups<F: FnMut(usize, &mut [u32]) -> usize>(
     Written { words, links }
 }
 
-// Writes the head before the groups and the end behind them.
+// Writes the head before the voices words and groups, and the end behind them.
 fn write_ends(head: Head, words: usize, links: usize, out: &mut [u32])
     requires { (head.version < 2 ^ 4) × (head.episodes < 2 ^ 24) × Small links × (words < length out.old) }
     ensures { out.new ≡ set (set out.old 0 (head_of head.version head.episodes)) words (word 15 links) }
@@ -140,18 +141,50 @@ fn write_ends(head: Head, words: usize, links: usize, out: &mut [u32])
     out[words] = Kind::End.word(links);
 }
 
-// Writes a copy with this head, the links of each episode by a call of `write_row`, and gives its count of words.
+// Whether a copy has a voices word for an episode with so many voices.
+fn has_word(voices: u32) -> bool
+    ensures { result ≡ not (eqb voices 1) }
+{
+    voices != 1
+}
+
+// Writes the voices words of the episodes that have other voices than one behind the first word, from a table of the voices, and gives the place
+// behind them.
+pub fn write_voices(voices: &[u32], out: &mut [u32]) -> usize
+    requires { (length voices.now ≤ 2 ^ 16) × ((v : ℕ) → v < length voices.now → get_or voices.now v 0 < 2 ^ 12)
+        × (length (voices_words (said voices.now) (length voices.now)) < length out.old) }
+    ensures { VoicesWritten (said voices.now) (length voices.now) out.old out.new result }
+{
+    let mut count = 0;
+    for (v, voices) in voices.iter().enumerate() {
+        if has_word(*voices) {
+            count += 1;
+            let mark = VoicesWord {
+                episode: v,
+                voices: *voices,
+            };
+            out[count] = mark.word();
+        }
+    }
+    count + 1
+}
+
+// Writes a copy with this head, behind whose voices words `start` is, the links of each episode by a call of `write_row`, and gives its count of words;
+// `o` there is the output before the voices words were written.
 pub fn write_by_rows<F: FnMut(usize, &mut [u32]) -> usize>(
     head: Head,
+    start: usize,
     out: &mut [u32],
     write_row: F,
 ) -> usize
-    requires { (pause : ℕ → ℕ → ℕ) × (g : Graph) × WritesLinks F.pre F.step pause g write_row × (g.n ≡ head.episodes) × (head.version < 2 ^ 4)
-        × (head.episodes < 2 ^ 24) × Small (length g.links) × (copy_length pause g ≤ length out.old) }
-    ensures { (pause : ℕ → ℕ → ℕ) (g : Graph) → WritesLinks F.pre F.step pause g write_row → g.n ≡ head.episodes → copy_length pause g ≤ length out.old
-        → (result ≡ length (copy_words head.version pause g)) × BeginsWith (copy_words head.version pause g) out.old out.new }
+    requires { (pause : ℕ → ℕ → ℕ) × (g : Graph) × (o : List ℕ) × WritesLinks F.pre F.step pause g write_row × (g.n ≡ head.episodes)
+        × VoicesWritten g.voices g.n o out.old start × (head.version < 2 ^ 4) × (head.episodes < 2 ^ 24) × Small (length g.links)
+        × (copy_length pause g ≤ length o) }
+    ensures { (pause : ℕ → ℕ → ℕ) (g : Graph) (o : List ℕ) → WritesLinks F.pre F.step pause g write_row → g.n ≡ head.episodes
+        → VoicesWritten g.voices g.n o out.old start → copy_length pause g ≤ length o
+        → (result ≡ length (copy_words head.version pause g)) × BeginsWith (copy_words head.version pause g) o out.new }
 {
-    let groups = write_groups(head.episodes, out, write_row);
+    let groups = write_groups(head.episodes, start, out, write_row);
     write_ends(head, groups.words, groups.links, out);
     groups.words + 1
 }
@@ -162,12 +195,15 @@ pub fn write_copy(log: Log, out: &mut [u32], w: &mut [u32; BLOCK]) -> usize
     ensures { (result ≡ length (fair_words (content_of log.entry.words.now)))
         × BeginsWith (fair_words (content_of log.entry.words.now)) out.old out.new }
 {
+    log.read_voices(w);
+    let start = write_voices(&w[..log.episodes], out);
     let head = Head {
         version: log.version(),
         episodes: log.episodes,
     };
     write_by_rows(
         head,
+        start,
         out,
         |a, rest|
             requires { (log.episodes ≤ 256) × (a < log.episodes) × (a % 64 ≢ 0 → BlockMarks (a / 64) (content_of log.words.now) w.now)

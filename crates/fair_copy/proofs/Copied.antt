@@ -33,7 +33,7 @@ module _ (m : Ceilings) (l o w o' w' : List ℕ) where
       let (words, unchanged) = begins_words (fair_words (content_of l)) o o' begins c count in
       record {
         passes = passes;
-        read = (asked_given m (λ n t. fair_need t) l (length o) (length w) (graph_of l).n (heard_count l) passes).0;
+        read = (asked_given m (λ n t v. fair_need t v) l (length o) (length w) (graph_of l).n (heard_count l) passes).0;
         words = words;
         count = sym count;
         unchanged = unchanged;

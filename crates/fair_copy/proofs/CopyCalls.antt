@@ -5,7 +5,7 @@ use Prim.Native.Nat.{ℕ, ◌≤◌}
 use lib.ListN.{length}
 use Rattle.std.specs.Prelude.{Ok, Err}
 use Rattle.logs.specs.Answer.{given, refused, reason_number}
-use Rattle.logs.specs.Log.{questions, content_of, graph_of, heard_count}
+use Rattle.logs.specs.Log.{questions, content_of, graph_of, heard_count, voices_count}
 use Rattle.logs.specs.declared.Ceilings.{Ceilings}
 use Rattle.logs.specs.declared.Refusal.{Refusal}
 use Rattle.logs.proofs.Laws.{graph_episodes, heard_count_words}
@@ -23,14 +23,14 @@ copy_refused m l o w r e = (e, refl, refl)
 
 -- where the questions are answered yes, those of the log are, and the lent buffers are long enough
 pub copy_passed : (m : Ceilings) (l : List ℕ) {out work n t : ℕ} → given (n, t) ≡ copy_asked m l out work
-    → (questions m l ≡ given (n, t)) × (fair_need t ≤ out) × (work_words ≤ work)
-copy_passed m l {out} {work} {n} {t} e = asked_given m (λ j u. fair_need u) l out work n t (sym e)
+    → (questions m l ≡ given (n, t)) × (fair_need t (voices_count l) ≤ out) × (work_words ≤ work)
+copy_passed m l {out} {work} {n} {t} e = asked_given m (λ j u v. fair_need u v) l out work n t (sym e)
 
 -- questions that are answered yes were asked of the graph
 pub asked_graph : (m : Ceilings) (l : List ℕ) (out work n t : ℕ) → copy_asked m l out work ≡ given (n, t)
     → copy_asked m l out work ≡ given ((graph_of l).n, heard_count l)
 asked_graph m l out work n t e =
-    let read = (asked_given m (λ j u. fair_need u) l out work n t e).0 in
+    let read = (asked_given m (λ j u v. fair_need u v) l out work n t e).0 in
     rw (graph_episodes m l n t read, heard_count_words m l n t read) e
 
 -- copied

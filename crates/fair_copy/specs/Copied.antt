@@ -12,9 +12,9 @@ use Rattle.report.specs.Report.{asked, cleared}
 abbrev pub copy_answer : Result ℕ Refusal → Answer ℕ
 copy_answer = result_answer (λ c. c)
 
--- Questions 1 to 12 and 18 of a fair copy call.
+-- Questions 1 to 12 and 18 to 21 of a fair copy call.
 abbrev pub copy_asked : Ceilings → List ℕ → ℕ → ℕ → Answer (ℕ × ℕ)
-copy_asked m l out work = asked m (λ n t. fair_need t) l out work
+copy_asked m l out work = asked m (λ n t v. fair_need t v) l out work
 
 -- What a fair copy call leaves, by its outcome: `l` is the log, `o` and `w` are the buffers at entry, `o'` and `w'` at exit.
 unfoldable pub CopyLeft : Ceilings → List ℕ → List ℕ → List ℕ → List ℕ → List ℕ → Result ℕ Refusal → Type 0

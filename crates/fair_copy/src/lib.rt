@@ -24,8 +24,8 @@ fn copy(log: Log, out: &mut [u32], work: &mut [u32; WORK_WORDS]) -> usize
     words
 }
 
-// Questions 1 to 12 and 18 of a copy of a log, at a caller's ceilings, with so many words lent.
-#[tactic(auto, using(logs::proofs::Laws::words_small))]
+// Questions 1 to 12 and 18 to 21 of a copy of a log, at a caller's ceilings, with so many words lent.
+#[tactic(auto, using(logs::proofs::Laws::words_small, logs::proofs::Laws::voices_words_small))]
 pub fn copy_asked(
     most: Ceilings,
     words: &[u32],
@@ -35,7 +35,7 @@ pub fn copy_asked(
     ensures answer { result_answer (λ l. (l.episodes, l.to_words)) result ≡ copy_asked most words.now output work }
     ensures same { IfOk result (λ l. l.words.now ≡ words.now) }
 {
-    report::call_asked(most, words, output, work, |_, t| 2 + 2 * t)
+    report::call_asked(most, words, output, work, |_, t, v| 2 + 2 * t + v)
 }
 
 // The fair copy at a caller's ceilings. As in `report`, questions and then an answer.

@@ -3,9 +3,9 @@ use Rattle.std.specs.Prelude.{◌≡◌, List, [], ◌∷◌, ◌++◌, ℕ, ◌
 use Rattle.logs.specs.Answer.{Answer, given, refused, question, result_answer}
 use Rattle.logs.specs.declared.Refusal.{Refusal}
 
--- the most bytes: those of the longest log that passes, 2 + 2 * 4,096 words
+-- the most bytes: those of the longest log that passes, 2 + 120 + 2 * 4,096 words, which has 120 voices words
 abbrev pub most_bytes : ℕ
-most_bytes = 32776
+most_bytes = 33256
 
 -- four bytes as a word, the lowest first
 abbrev pub word_of : ℕ → ℕ → ℕ → ℕ → ℕ

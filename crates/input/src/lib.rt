@@ -10,8 +10,8 @@ use logs::{Reason, Refusal};
 use std::io;
 use std::io::Read;
 
-// The most bytes: those of the longest log that passes, 2 + 2 * 4,096 words.
-pub const MOST_BYTES: usize = 32776;
+// The most bytes: those of the longest log that passes, 2 + 120 + 2 * 4,096 words, which has 120 voices words.
+pub const MOST_BYTES: usize = 33256;
 
 // The word of the four bytes from `at` on, the lowest first.
 fn word_at(bytes: &[u8], at: usize) -> u32

@@ -9,7 +9,7 @@ use native.Mathlib.Omega.{arith}
 use lib.Dec.{eqb}
 use lib.ListN.{length, replicate, length-replicate, get_or-replicate}
 use mir.Val.{bool_byte}
-use Rattle.paths.specs.Graph.{SameLinks}
+use Rattle.paths.specs.Graph.{Graph, SameLinks}
 use Rattle.paths.specs.Links.{distinct, link_count}
 use Rattle.paths.proofs.Links.{distinct_again, distinct_new, count_few, count_same}
 use Rattle.logs.specs.Log.{graph_of}
@@ -36,7 +36,7 @@ none_counted =
 module _ (seen : List ℕ) (count row to : ℕ) (next : Next (λ n. n ≤ 256) (λ from. 8 * from) (Counted seen count) row to) where
   -- one more can be counted
   pub has_room : (more : ℕ) → more ≤ 1 → count + more < 2 ^ 64
-  has_room more one = omega (arith, next.room, next.before.counted, count_few (record { n = 0; links = next.links }))
+  has_room more one = omega (arith, next.room, next.before.counted, count_few (record { n = 0; links = next.links; voices = λ v. 1 }))
 
   -- one whose pause lets it count is counted unless it is marked
   new_counted : (more : ℕ) (seen' : List ℕ) → BitSet seen seen' row to → more + bit seen row to ≡ 1
@@ -77,5 +77,6 @@ module _ (seen : List ℕ) (count row to : ℕ) (next : Next (λ n. n ≤ 256) (
 -- the links of a log that count by their own pause are those of its graph
 pub count_of_log : (l seen : List ℕ) (count : ℕ) → Counted seen count (short_links l) → count ≡ link_count (graph_of l)
 count_of_log l seen count all =
-    let same : SameLinks (record { n = (graph_of l).n; links = short_links l }) (graph_of l) = record { episodes = refl; links = short_counts l } in
+    let heard : Graph = record { n = (graph_of l).n; links = short_links l; voices = (graph_of l).voices } in
+    let same : SameLinks heard (graph_of l) = record { episodes = refl; voices = λ v h. refl; links = short_counts l } in
     all.counted ∙ count_same same

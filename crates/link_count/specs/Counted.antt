@@ -12,7 +12,7 @@ use Rattle.bits.specs.Work.{matrix_words, Matrix}
 abbrev pub count_answer : Result ℕ Refusal → Answer ℕ
 count_answer = result_answer (λ k. k)
 
--- Questions 1 to 10 and 18, then the link count of the log's graph.
+-- Questions 1 to 10 and 18 to 21, then the link count of the log's graph.
 abbrev pub count_asked : Ceilings → List ℕ → Answer ℕ
 count_asked m l = and_then (questions m l) (given (link_count (graph_of l)))
 

@@ -6,7 +6,7 @@ use mathlib.Core.Logic.{◌↔◌}
 use mathlib.Core.Bool.{Bool, true, false, Bool-discrete}
 use mathlib.Core.List.Memᴰ
 use mathlib.Core.List.{List, [], ◌∷◌, ◌++◌, map, map-append, filter-append, Memᴰ as Mem}
-use Prim.Native.Nat.{ℕ, ◌≤◌}
+use Prim.Native.Nat.{ℕ, ◌≤◌, ◌<◌}
 use native.Mathlib.Omega.{arith}
 use lib.Dec.{eqb}
 use lib.ListN.{length, length-map}
@@ -117,7 +117,7 @@ module _ (c : Content) where
   -- where the least pause of each link that was heard lets it count, all that were heard do
   whole_graph : All Counts c.heard → graph c ≡ heard_graph c
   unfolding counting
-  whole_graph h = ap (λ (hs : List Heard). record { n = c.n; links = map joins hs }) (filter_all counts c.heard h)
+  whole_graph h = ap (λ (hs : List Heard). record { n = c.n; links = map joins hs; voices = c.voices }) (filter_all counts c.heard h)
 
   -- so it is in version 0
   pub old_graph : c.version ≡ 0 → graph c ≡ heard_graph c
@@ -156,7 +156,7 @@ module _ (c : Content) where
 
   pub count_whole : ((a b : ℕ) → Link (heard_graph c) a b → Link (graph c) a b) → link_count (graph c) ≡ link_count (heard_graph c)
   count_whole all =
-      let same : SameLinks (graph c) (heard_graph c) = record { episodes = refl; links = λ a b. (counted_heard a b, all a b) } in
+      let same : SameLinks (graph c) (heard_graph c) = record { episodes = refl; voices = λ v h. refl; links = λ a b. (counted_heard a b, all a b) } in
       count_same same
 
   -- where it is not less than the count of all that were heard, repeats included, each of them counts
@@ -170,17 +170,18 @@ module _ (c : Content) where
           let fewer = filter_fewer counts c.heard m long in
           absurd (omega (arith, count_few (graph c), length-map (counting c) joins))
 
--- contents of version 0 with the same episodes and the same links that were heard have the same links
-pub old_same : (c d : Content) → c.version ≡ 0 → d.version ≡ 0 → c.n ≡ d.n
+-- contents of version 0 with the same episodes, as many voices and the same links that were heard have the same links
+pub old_same : (c d : Content) → c.version ≡ 0 → d.version ≡ 0 → c.n ≡ d.n → ((v : ℕ) → v < c.n → c.voices v ≡ d.voices v)
     → ((a b : ℕ) → ((p : ℕ) × HeardOf c a b p) ↔ ((p : ℕ) × HeardOf d a b p)) → SameLinks (graph c) (graph d)
-old_same c d old old' episodes heard =
-    record { episodes = episodes; links = λ a b. Iff.trans (old_counts c old a b) (Iff.trans (heard a b) (Iff.symm (old_counts d old' a b))) }
+old_same c d old old' episodes voices heard =
+    record { episodes = episodes; voices = voices; links = λ a b. Iff.trans (old_counts c old a b) (Iff.trans (heard a b) (Iff.symm (old_counts d old' a b))) }
 
 -- contents that agree have the same links that count
 pub same_links : {c d : Content} → SameContent c d → SameLinks (graph c) (graph d)
 same_links {c} {d} s =
     record {
       episodes = s.episodes;
+      voices = s.voices;
       links = λ a b. (
         λ m.
             let (p, least, short) = (counts_least c a b).0 m in

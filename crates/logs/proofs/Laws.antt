@@ -1,25 +1,32 @@
--- The laws of a log `l` that passes questions 1 to 10 and 18 with `n` episodes and `t` to words: what other crates cite.
+-- The laws of a log `l` that passes questions 1 to 10 and 18 to 21 with `n` episodes and `t` to words: what other crates cite.
 use mathlib.Core.Path.{◌≡◌, ◌∙◌, sym, ap}
 use mathlib.Core.Logic.{◌↔◌}
-use mathlib.Core.List.{List, [], ◌∷◌, ◌++◌, map, Memᴰ as Mem}
-use Prim.Native.Nat.{ℕ, ◌+◌, ◌-◌, ◌<◌, ◌≤◌, ◌^◌}
+use mathlib.Core.Bool.{not}
+use mathlib.Core.List.{List, [], ◌∷◌, ◌++◌, map, Memᴰ as Mem, Nodup}
+use Prim.Native.Nat.{ℕ, zero, suc, ◌+◌, ◌-◌, ◌<◌, ◌≤◌, ◌^◌}
 use native.Mathlib.Omega.{arith}
+use lib.Dec.{eqb}
 use lib.ListN.{length, get_or, drop, length-map}
+use Rattle.order.specs.Order.{All}
 use Rattle.paths.specs.Graph.{Link, EndsBelow}
+use Rattle.paths.specs.Passing.{passing}
 use Rattle.logs.specs.Words.{kind, number, to_episode, to_pause, Small}
 use Rattle.logs.specs.Content.{Heard, joins, heard_graph, short_enough, short_of}
 use Rattle.logs.specs.Answer.{given}
-use Rattle.logs.specs.Log.{figure, questions, content_of, graph_of, heard_count, PassedLog}
+use Rattle.logs.specs.Log.{questions, marks_of, content_of, graph_of, heard_count, voices_count, most_with_voices, most_voices}
+use Rattle.logs.specs.Places.{BehindVoices}
 use Rattle.logs.specs.Groups.{heard_before, short_links, short_before, nearest_from}
 use Rattle.logs.specs.Hear.{where_short}
 use Rattle.logs.specs.declared.Ceilings.{Ceilings}
-use Rattle.logs.proofs.Words.{number_lt, figure_from, figure_to}
+use Rattle.logs.proofs.Words.{number_lt}
 use Rattle.logs.proofs.Links as links
 use Rattle.logs.proofs.Links.{heard_count_lem, heard_fits}
 use Rattle.logs.proofs.Counts as counts
 use Rattle.logs.proofs.Counts.{counted_heard, links_few, short_none, short_more, short_one}
 use Rattle.logs.proofs.WellFormed as forms
-use Rattle.logs.proofs.WellFormed.{WellFormed}
+use Rattle.logs.proofs.WellFormed.{WellFormed, behind_voices}
+use Rattle.logs.proofs.Marks as marks
+use Rattle.logs.proofs.Marks.{voices_one, voices_marked, voices_at_most, others_few}
 
 module _ (m : Ceilings) (l : List ℕ) (n t : ℕ) where
   -- a log passes exactly when it is well formed: `WellFormed` says what stands at each place
@@ -65,32 +72,73 @@ module _ (m : Ceilings) (l : List ℕ) (n t : ℕ) (e : questions m l ≡ given 
   pub links_below : EndsBelow (graph_of l)
   links_below a b k = heard_below a b (counted_heard (content_of l) a b k)
 
--- A word between head and end of a log that passes, at most 256 episodes being allowed: it gives an episode.
-module _ (l : List ℕ) (passed : PassedLog l) (p : ℕ) (behind : 0 < p) (inner : p + 1 < length l) where
-  below : figure (get_or l p 0) < 256
-  below =
-      let (m, n, t, e, few) = passed in
-      let low : figure (get_or l p 0) < n = (forms.well_formed m l n t e).below p behind inner in
-      omega arith
+  -- behind the head stand the voices words, and then the first group or the end
+  pub voices_end : BehindVoices l (voices_count l + 1)
+  voices_end = (forms.well_formed m l n t e).voices
 
-  pub from_word_below : kind (get_or l p 0) ≡ 2 → number (get_or l p 0) < 256
-  from_word_below k = rw (figure_from _ k) at below
+  -- where there is a voices word, there are 120 episodes at the most
+  pub voices_most : 1 ≤ voices_count l → n ≤ most_with_voices
+  voices_most = (forms.well_formed m l n t e).marks.few
 
-  pub to_word_below : kind (get_or l p 0) ≡ 3 → to_episode (get_or l p 0) < 256
-  to_word_below k = rw (figure_to _ k) at below
+  -- a mark is of an episode, no episode is marked twice, and each has the voices of its mark, of which there are 2 at the most
+  pub marks_below : All (λ s. s.0 < n) (marks_of (drop 1 l))
+  marks_below = (forms.well_formed m l n t e).marks.below
+
+  pub marks_few : All (λ s. s.1 ≤ most_voices) (marks_of (drop 1 l))
+  marks_few = (forms.well_formed m l n t e).marks.voices
+
+  pub marks_once : Nodup (map (λ s. s.0) (marks_of (drop 1 l)))
+  marks_once = (forms.well_formed m l n t e).marks.once
+
+  pub marks_voices : (s : ℕ × ℕ) → Mem s (marks_of (drop 1 l)) → (content_of l).voices s.0 ≡ s.1
+  marks_voices = voices_marked (marks_of (drop 1 l)) marks_once
+
+  -- so there are at most as many voices words as episodes
+  pub voices_words_few : voices_count l ≤ n
+  voices_words_few = marks.marks_most n (marks_of (drop 1 l)) marks_below marks_once
+
+  pub voices_words_small : Small (voices_count l)
+  voices_words_small = omega (arith, voices_words_few, graph_episodes)
+
+  pub voices_few : (v : ℕ) → v < n → (content_of l).voices v ≤ 2
+  voices_few v h = voices_at_most most_voices (marks_of (drop 1 l)) (omega arith) marks_few v
+
+-- without a voices word each episode has one voice
+pub voices_none : (l : List ℕ) → voices_count l ≡ 0 → (v : ℕ) → (content_of l).voices v ≡ 1
+voices_none l = voices_one (marks_of (drop 1 l))
+
+-- and so has an episode that none of them names
+pub voices_else : (l : List ℕ) (v : ℕ) → (Mem v (map (λ s. s.0) (marks_of (drop 1 l))) → ⊥) → (content_of l).voices v ≡ 1
+voices_else l = marks.voices_unmarked (marks_of (drop 1 l))
+
+-- the episodes with voices other than 1 are at most as many as the voices words
+pub others_marked : (l : List ℕ) (n : ℕ) → length (passing (λ v. not (eqb ((content_of l).voices v) 1)) n) ≤ voices_count l
+others_marked l = others_few (marks_of (drop 1 l))
 
 -- the episode and the pause of a link that was heard fit a to word
 pub content_fits : (l : List ℕ) (h : Heard) → Mem h (content_of l).heard → (h.to < 2 ^ 16) × (h.pause < 2 ^ 12)
 content_fits l = heard_fits 0 (drop 1 l)
 
--- Passing over the words behind the head, in order. At place 1 no link has been heard; a from word changes the nearest from word, and a
+-- Passing over the words behind the head, in order. Behind the head and the voices words no link has been heard; a from word changes the nearest from word, and a
 -- to word adds its link; at the last word the links that have been heard are the log's. To the links that count by their own pause a to word
 -- adds its link where its pause lets it.
 pub before_head : (l : List ℕ) → 0 < length l → heard_before l 1 ≡ []
 before_head = links.before_head
 
-pub no_links : (l : List ℕ) → 0 < length l → short_before l 1 ≡ []
-no_links l h = ap (map joins) (ap (short_of (content_of l).version) (before_head l h) ∙ short_none (content_of l).version)
+-- the voices words give none
+pub before_groups : (l : List ℕ) (start : ℕ) → BehindVoices l start → heard_before l start ≡ []
+before_groups l start b = go start b.behind b.within b.before
+  where
+    go : (p : ℕ) → 0 < p → p < length l → ((q : ℕ) → 0 < q → q < p → kind (get_or l q 0) ≡ 9) → heard_before l p ≡ []
+    go zero o h k = absurd (omega arith)
+    go (suc zero) o h k = before_head l (omega arith)
+    go (suc (suc p)) o h k =
+        let e : suc (suc p) ≡ suc p + 1 = omega arith in
+        ap (heard_before l) e ∙ links.pass_voices l (suc p) (omega arith) (omega arith) (k (suc p) (omega arith) (omega arith))
+        ∙ go (suc p) (omega arith) (omega arith) (λ q a b. k q a (omega arith))
+
+pub no_links : (l : List ℕ) (start : ℕ) → BehindVoices l start → short_before l start ≡ []
+no_links l start h = ap (map joins) (ap (short_of (content_of l).version) (before_groups l start h) ∙ short_none (content_of l).version)
 
 module _ (l : List ℕ) (p : ℕ) (behind : 0 < p) (within : p < length l) where
   pub pass_from : kind (get_or l p 0) ≡ 2 → (heard_before l (p + 1) ≡ heard_before l p) × (nearest_from l (p + 1) ≡ number (get_or l p 0))

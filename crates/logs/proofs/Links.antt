@@ -37,6 +37,10 @@ module _ (a w : ℕ) (rest : List ℕ) where
   unfolding heard_from
   heard_end k = rw (k, heard_from) (rw k)
 
+  pub heard_voices : kind w ≡ 9 → heard_from a (w ∷ rest) ≡ heard_from a rest
+  unfolding heard_from
+  heard_voices k = rw (k, heard_from) (rw k)
+
 pub heard_nil : (a : ℕ) → heard_from a [] ≡ []
 unfolding heard_from
 heard_nil a = refl
@@ -58,6 +62,10 @@ module _ (w : ℕ) (rest : List ℕ) where
   pub count_end : kind w ≡ 15 → to_words (w ∷ rest) ≡ to_words rest
   unfolding to_words
   count_end k = rw (to_words, k)
+
+  pub count_voices : kind w ≡ 9 → to_words (w ∷ rest) ≡ to_words rest
+  unfolding to_words
+  count_voices k = rw (to_words, k)
 
 -- each to word gives one link
 pub heard_count_lem : (a : ℕ) (s : List ℕ) → length (heard_from a s) ≡ to_words s
@@ -101,6 +109,10 @@ module _ (a w : ℕ) where
   unfolding last_from
   last_to k = rw (k, last_from)
 
+  pub last_voices : kind w ≡ 9 → last_from a (w ∷ []) ≡ a
+  unfolding last_from
+  last_voices k = rw (k, last_from)
+
 pub heard_append : (a : ℕ) (xs ys : List ℕ) → heard_from a (xs ++ ys) ≡ heard_from a xs ++ heard_from (last_from a xs) ys
 unfolding heard_from last_from
 heard_append a [] ys = refl
@@ -115,7 +127,7 @@ heard_append a (w ∷ xs) ys = by_kind (is_from w) (is_to w) refl refl (λ b. he
         (ap (λ (l : List Heard). record { from = a; to = to_episode w; pause = to_pause w } ∷ l) (more a))
     by_kind false false f g more = rw (f, g, heard_from, last_from) (more a)
 
-before_next : (l : List ℕ) (p : ℕ) → 0 < p → p < length l → before l (p + 1) ≡ before l p ++ get_or l p 0 ∷ []
+pub before_next : (l : List ℕ) (p : ℕ) → 0 < p → p < length l → before l (p + 1) ≡ before l p ++ get_or l p 0 ∷ []
 before_next l p h g =
     rw (add-one, take-suc l p 0 g)
     (drop-append-le 1 (take p l) (get_or l p 0 ∷ []) (omega (arith, length-take-le p l (omega arith))))
@@ -152,6 +164,9 @@ module _ (l : List ℕ) (p : ℕ) (behind : 0 < p) (within : p < length l) where
       ≡ heard_before l p ++ record { from = nearest_from l p; to = to_episode (get_or l p 0); pause = to_pause (get_or l p 0) } ∷ [])
       × (nearest_from l (p + 1) ≡ nearest_from l p)
   pass_to k = (heard_next ∙ rw (heard_to _ _ _ k, heard_nil), from_next ∙ last_to _ _ k)
+
+  pub pass_voices : kind (get_or l p 0) ≡ 9 → heard_before l (p + 1) ≡ heard_before l p
+  pass_voices k = heard_next ∙ rw (heard_voices _ _ _ k, heard_nil, append-nil)
 
   pub pass_end : kind (get_or l p 0) ≡ 15 → heard_before l (p + 1) ≡ heard_before l p
   pass_end k = heard_next ∙ rw (heard_end _ _ _ k, heard_nil, append-nil)

@@ -1,6 +1,6 @@
--- Older logs read as before: version 0, pause 0 everywhere, and the graph and the answer to questions 1 to 10 that they had.
+-- Older logs read as before: version 0, pause 0 everywhere, one voice for each episode, and the graph and the answer to questions 1 to 10 that they had.
 use mathlib.Core.Path.{◌≡◌, refl, ◌∙◌, ap, ap₂}
-use mathlib.Core.Logic.{⊎_elim}
+use mathlib.Core.Logic.{◌≢◌, ⊎_elim}
 use mathlib.Core.Bool.{Bool, true, false, not, ◌||◌}
 use mathlib.Core.List.Memᴰ.{cases_cons as mem-cases}
 use mathlib.Core.List.Memᴰ.{head as here}
@@ -16,18 +16,19 @@ use Prim.Native.Nat.{ℕ, ◌+◌, ◌<◌, ◌^◌}
 use native.Mathlib.Decide.{ℕ_discrete}
 use native.Mathlib.Omega.{arith}
 use lib.Dec.{leb, ltb, eqb}
-use lib.ListN.{get_or, drop}
+use lib.ListN.{length, get_or, drop}
 use borrow.Author.Tests.{eqb-true, ne_eqb}
 use Rattle.order.specs.Order.{All}
 use Rattle.logs.specs.Words.{kind, number, head_episodes, head_version, to_episode, to_pause}
 use Rattle.logs.specs.Content.{Heard, joins}
 use Rattle.logs.specs.Answer.{Answer, given, and_then}
-use Rattle.logs.specs.Log.{is_from, is_to, to_before_last, figure, minutes, head_word, group_word, end_word, counted, onwards, questions, heard_from, content_of, graph_of}
+use Rattle.logs.specs.Log.{is_from, is_to, to_before_last, figure, minutes, head_word, group_word, end_word, counted, onwards, voices_onwards, questions, marks_of, voices_by, heard_from, content_of, graph_of, voices_count}
 use Rattle.logs.specs.Earlier.{Unpaused, Older}
 use Rattle.logs.specs.Earlier as earlier
 use Rattle.logs.specs.declared.Ceilings.{Ceilings}
 use Rattle.logs.proofs.Words.{figure_to}
 use Rattle.logs.proofs.Asked.{same_two, same_five}
+use Rattle.logs.proofs.Marks.{marks_nil, marks_none}
 use Rattle.logs.proofs.Counts.{old_graph}
 
 -- a word of an older log: question 7 looks at its whole number
@@ -78,12 +79,19 @@ onwards_older m n p w (x ∷ rest) from t h =
     ∙ ap (and_then (earlier.group_word m n p w (x ∷ rest) from t))
     (onwards_older m n (p + 1) x rest (from || is_from w) (counted (is_to w) t) (λ y i. h y (there i)))
 
+-- it has no voices word, so behind the head 4 to 10 are asked at once
+voices_older : (m : Ceilings) (n p w : ℕ) (rest : List ℕ) → kind w ≢ 9 → voices_onwards m n p w rest [] ≡ onwards m n p w rest false 0
+unfolding voices_onwards
+voices_older m n p w [] ne = refl
+voices_older m n p w (x ∷ rest) ne = rw (ne_eqb (kind w) 9 ne, voices_onwards)
+
 pub questions_older : (m : Ceilings) (l : List ℕ) → Older l → questions m l ≡ earlier.questions m l
 unfolding questions earlier.questions
 questions_older m [] h = refl
 questions_older m (w ∷ []) h = refl
-questions_older m (w ∷ x ∷ rest) (h, low) =
-    head_older w (onwards m (head_episodes w) 1 x rest false 0) m low
+questions_older m (w ∷ x ∷ rest) (h, low, none) =
+    ap (and_then (head_word m w)) (voices_older m (head_episodes w) 1 x rest (none x (there (here refl))))
+    ∙ head_older w (onwards m (head_episodes w) 1 x rest false 0) m low
     ∙ rw (old_episodes w low) (ap (and_then (earlier.head_word m w)) (onwards_older m (number w) 1 x rest false 0 (λ y i. h y (there i))))
 
 -- its links are those that it had, each with pause 0
@@ -107,20 +115,36 @@ heard_older a (w ∷ rest) h = by_kind (is_from w) (is_to w) refl refl (λ b. he
         )
     by_kind false false f g more = rw (f, g, heard_from, earlier.links_from) (more a)
 
--- so are the words behind the head
+-- so are the words behind the head, and none of them gives a mark
 behind_older : (l : List ℕ) → Unpaused l → Unpaused (drop 1 l)
 behind_older [] h = h
 behind_older (w ∷ l) h = λ x i. h x (there i)
+
+unmarked_older : (l : List ℕ) → All (λ w. kind w ≢ 9) l → marks_of (drop 1 l) ≡ []
+unmarked_older [] h = marks_nil
+unmarked_older (w ∷ l) h = marks_none l (λ x i. h x (there i))
+
+-- each episode has one voice
+one_voice : voices_by [] ≡ (λ v. 1)
+unfolding voices_by
+one_voice = refl
 
 module _ (l : List ℕ) (older : Older l) where
   pub version_older : (content_of l).version ≡ 0
   version_older = old_version (get_or l 0 0) older.1
 
+  voices_older_lem : (content_of l).voices ≡ (λ v. 1)
+  voices_older_lem = ap voices_by (unmarked_older l older.2) ∙ one_voice
+
+  pub no_voices_older : voices_count l ≡ 0
+  no_voices_older = ap length (unmarked_older l older.2)
+
   pub graph_older : graph_of l ≡ earlier.graph_of l
   graph_older =
       old_graph (content_of l) version_older
-      ∙ ap₂ (λ (k : ℕ) (ls : List (ℕ × ℕ)). record { n = k; links = ls }) (old_episodes (get_or l 0 0) older.1)
+      ∙ ap₂ (λ (k : ℕ) (ls : List (ℕ × ℕ)). record { n = k; links = ls; voices = (content_of l).voices }) (old_episodes (get_or l 0 0) older.1)
       (heard_older 0 (drop 1 l) (behind_older l older.0)).0
+      ∙ ap (λ (f : ℕ → ℕ). record { n = number (get_or l 0 0); links = earlier.links_from 0 (drop 1 l); voices = f }) voices_older_lem
 
   pub no_pause_lem : All (λ k. k.pause ≡ 0) (content_of l).heard
   no_pause_lem = (heard_older 0 (drop 1 l) (behind_older l older.0)).1

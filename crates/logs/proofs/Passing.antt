@@ -7,7 +7,7 @@ use native.Mathlib.Omega.{arith}
 use lib.ListN.{length, get_or, take, drop, length-drop}
 use lib.Seq.{take-suc, length-take-le, get_or-take, get_or-drop}
 use Rattle.logs.proofs.Words.{figure_from, figure_to}
-use Rattle.logs.proofs.WellFormed.{WellFormed, well_formed}
+use Rattle.logs.proofs.WellFormed.{WellFormed, well_formed, behind_voices}
 use Rattle.logs.specs.Words.{to_episode}
 use Rattle.logs.specs.Content.{Heard, joins, short_of}
 use Rattle.logs.specs.Log.{to_before_last, content_of}
@@ -89,7 +89,8 @@ module _ (s : Groups) (g : Group) (t : Groups) (d : Given s g t) where
   pub from_below : g.from < s.log.episodes
   from_below =
       let inner = d.inner in
-      rw d.from (rw (figure_from _ (s.here.starts (omega arith))) at (formed.below s.at s.here.behind (omega arith)))
+      let k = s.here.starts (omega arith) in
+      rw d.from (rw (figure_from _ k) at (formed.below s.at (behind_voices formed s.at s.here.behind (λ e. omega arith)) (omega arith)))
 
   pub to_below : (j : ℕ) → j < length g.to_words.now → to_episode (get_or g.to_words.now j 0) < s.log.episodes
   to_below j h =
@@ -100,4 +101,5 @@ module _ (s : Groups) (g : Group) (t : Groups) (d : Given s g t) where
       let there = to_there l (s.at + 1 + j) (d.words.each (s.at + 1 + j) (omega arith) (omega arith)) in
       let same : get_or g.to_words.now j 0 ≡ get_or l (s.at + 1 + j) 0 =
       ap (λ q. get_or q j 0) d.to_words ∙ get_or-take (t.at - (s.at + 1)) (drop (s.at + 1) l) j 0 (omega arith) ∙ get_or-drop (s.at + 1) l j 0 in
-      rw same (rw (figure_to _ there.1) at (formed.below (s.at + 1 + j) (omega arith) there.0))
+      let k = there.1 in
+      rw same (rw (figure_to _ k) at (formed.below (s.at + 1 + j) (behind_voices formed (s.at + 1 + j) (omega arith) (λ e. omega arith)) there.0))

@@ -20,7 +20,7 @@ use mathlib.Core.List.{
   filter-append,
   Memᴰ as Mem,
 }
-use Prim.Native.Nat.{ℕ, ◌≤◌, min}
+use Prim.Native.Nat.{ℕ, ◌≤◌, ◌<◌, min}
 use native.Mathlib.Decide.{ℕ_discrete}
 use native.Mathlib.Omega.{arith}
 use Rattle.order.proofs.Lists.{filter_sound, filter_complete}
@@ -130,6 +130,7 @@ module _ {c d : Content} where
   same_heards s =
       record {
         episodes = s.episodes;
+        voices = s.voices;
         links = λ a b. Iff.trans (link_heard c a b) (Iff.trans (s.links a b) (Iff.symm (link_heard d a b)));
       }
 
@@ -138,7 +139,7 @@ module _ {c d : Content} where
       let there = least_pause_lem c a b ((link_heard c a b).0 k) in
       least_unique ((s.pauses a b _).0 there) (least_pause_lem d a b (least_pause c a b, ((s.pauses a b _).0 there).heard))
 
--- and the other way round: contents with the same version, the same links and the same least pauses agree
+-- and the other way round: contents with the same version, the same voices, the same links and the same least pauses agree
 module _ {c d : Content} (versions : c.version ≡ d.version) (s : SameLinks (heard_graph c) (heard_graph d)) where
   heard_both : (a b : ℕ) → ((p : ℕ) × HeardOf c a b p) ↔ ((p : ℕ) × HeardOf d a b p)
   heard_both a b = Iff.trans (Iff.symm (link_heard c a b)) (Iff.trans (s.links a b) (link_heard d a b))
@@ -158,13 +159,14 @@ module _ {c d : Content} (versions : c.version ≡ d.version) (s : SameLinks (he
     )
 
     pub content_same : SameContent c d
-    content_same = record { versions = versions; episodes = s.episodes; links = heard_both; pauses = pauses_equal }
+    content_same = record { versions = versions; episodes = s.episodes; voices = s.voices; links = heard_both; pauses = pauses_equal }
 
 pub content_sym : {c d : Content} → SameContent c d → SameContent d c
 content_sym s =
     record {
       versions = sym s.versions;
       episodes = sym s.episodes;
+      voices = λ v h. sym (s.voices v (subst (λ (k : ℕ). v < k) (sym s.episodes) h));
       links = λ a b. Iff.symm (s.links a b);
       pauses = λ a b p. Iff.symm (s.pauses a b p);
     }
@@ -174,6 +176,7 @@ content_trans s t =
     record {
       versions = s.versions ∙ t.versions;
       episodes = s.episodes ∙ t.episodes;
+      voices = λ v h. s.voices v h ∙ t.voices v (subst (λ (k : ℕ). v < k) s.episodes h);
       links = λ a b. Iff.trans (s.links a b) (t.links a b);
       pauses = λ a b p. Iff.trans (s.pauses a b p) (t.pauses a b p);
     }

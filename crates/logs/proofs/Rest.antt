@@ -13,9 +13,10 @@ use lib.ListN.{length, get_or, drop}
 use Rattle.logs.specs.Words.{kind, number, to_episode}
 use Rattle.logs.specs.Content.{Heard}
 use Rattle.logs.specs.Answer.{Answer, given, refused, and_then}
-use Rattle.logs.specs.Log.{is_from, is_to, group_word, end_word, counted, onwards, heard_from}
+use Rattle.logs.specs.Log.{is_from, is_to, group_word, end_word, counted, onwards, heard_from, marks_of}
 use Rattle.logs.specs.declared.Ceilings.{Ceilings}
 use Rattle.logs.proofs.Asked.{group_taken, end_taken, from_given, to_given, end_given, FromTaken, ToTaken}
+use Rattle.logs.proofs.Marks.{marks_nil, marks_other}
 use Rattle.logs.proofs.Links.{heard_from_lem, heard_to, heard_end, heard_nil, to_words, count_from, count_to, count_end}
 
 -- a word between head and end: a from word with a to word behind it that is not the last, or a to word
@@ -133,6 +134,22 @@ rest_passes m n p w (x ∷ rest) from t t' r room =
     let before = from_before n w x rest from t t' r k.0 in
     let taken : ToTaken m n w from t = record { kind_to = k.0; from_before = before; below = k.1; room = omega (arith, r.count, count_to w (x ∷ rest) k.0) } in
     rw (to_given m n p w (x ∷ rest) from t taken, before, k.0) more)
+    (r.grouped 0 (omega arith))
+
+-- none of the words is a voices word
+pub rest_marks : (n : ℕ) (s : List ℕ) (from : Bool) (t t' : ℕ) → RestFormed n s from t t' → marks_of s ≡ []
+rest_marks n [] from t t' r = marks_nil
+rest_marks n (w ∷ []) from t t' r =
+    let end : kind w ≡ 15 = r.end_kind in
+    marks_other w [] (λ e. omega arith) ∙ marks_nil
+rest_marks n (w ∷ x ∷ rest) from t t' r =
+    ⊎_elim
+    (λ k.
+    let two = k.kind_from in
+    marks_other w (x ∷ rest) (λ e. omega arith) ∙ rest_marks n (x ∷ rest) true t t' (behind_from n w x rest from t t' two r))
+    (λ k.
+    let three = k.0 in
+    marks_other w (x ∷ rest) (λ e. omega arith) ∙ rest_marks n (x ∷ rest) true (t + 1) t' (behind_to n w x rest from t t' three r))
     (r.grouped 0 (omega arith))
 
 pub ends_below : (n : ℕ) (s : List ℕ) (from : Bool) (t t' a : ℕ) → RestFormed n s from t t' → (from ≡ true → a < n)

@@ -1,15 +1,16 @@
--- A log in which every to word has pause 0: the answer to questions 1 to 10 and 18 and the links that were heard, but for their pauses, are those of
+-- A log in which every to word has pause 0: the answer to questions 1 to 10 and 18 to 21 and the links that were heard, but for their pauses, are those of
 -- the log.
 use mathlib.Core.Path.{◌≡◌, refl, ◌∙◌, ap, ap₂, sym}
 use mathlib.Core.Bool.{Bool, true, false, not, ◌||◌}
-use mathlib.Core.List.{List, [], ◌∷◌, map}
+use mathlib.Core.List.{List, [], ◌∷◌, ◌++◌, map}
 use Prim.Native.Nat.{ℕ, ◌+◌}
+use native.Mathlib.Decide.{ℕ_discrete}
 use native.Mathlib.Omega.{arith}
 use lib.Dec.{leb, ltb}
 use lib.ListN.{length, length-map}
-use borrow.Author.Tests.{eqb-true}
+use borrow.Author.Tests.{eqb-true, ne_eqb}
 use Rattle.paths.specs.Graph.{Graph}
-use Rattle.logs.specs.Words.{kind, number, head_episodes, to_episode, to_word}
+use Rattle.logs.specs.Words.{kind, number, head_episodes, to_episode, to_word, voices_episode, voices_given}
 use Rattle.logs.specs.Content.{joins, heard_graph}
 use Rattle.logs.specs.Answer.{Answer, given, and_then}
 use Rattle.logs.specs.Log.{
@@ -23,18 +24,25 @@ use Rattle.logs.specs.Log.{
   end_word,
   counted,
   onwards,
+  is_voices,
+  voices_asked,
+  voices_onwards,
   questions,
+  marks_of,
+  voices_by,
   heard_from,
   content_of,
   graph_of,
   heard_count,
   without_pause,
   without_pauses,
+  voices_count,
 }
 use Rattle.logs.specs.declared.Ceilings.{Ceilings}
 use Rattle.logs.proofs.Words.{to_kind, to_episode_lem, figure_to}
 use Rattle.logs.proofs.Asked.{same_five}
 use Rattle.logs.proofs.Links.{heard_to}
+use Rattle.logs.proofs.Marks.{mark_of, marks_voices, marks_other}
 use Rattle.logs.proofs.Counts.{old_graph}
 
 module _ (w : ℕ) where
@@ -99,11 +107,28 @@ onwards_unpaused m n p w (x ∷ rest) from t =
     rw (kind_unpaused w, onwards_unpaused m n (p + 1) x rest (from || is_from w) (counted (is_to w) t))
     (group_unpaused m (onwards m n (p + 1) x rest (from || is_from w) (counted (is_to w) t)) n p w (x ∷ rest) from t)
 
+-- a voices word stays as it is
+same_voices_word : (w : ℕ) → kind w ≡ 9 → without_pause w ≡ w
+same_voices_word w k = other_unpaused w (ne_eqb (kind w) 3 (λ e. omega arith))
+
+voices_unpaused : (m : Ceilings) (n p w : ℕ) (rest : List ℕ) (marks : List (ℕ × ℕ))
+    → voices_onwards m n p (without_pause w) (map without_pause rest) marks ≡ voices_onwards m n p w rest marks
+unfolding voices_onwards
+voices_unpaused m n p w [] marks = onwards_unpaused m n p w [] false 0
+voices_unpaused m n p w (x ∷ rest) marks = by_kind (is_voices w) refl (voices_unpaused m n (p + 1) x rest (marks ++ (voices_episode w, voices_given w) ∷ []))
+  where
+    by_kind : (b : Bool) → is_voices w ≡ b
+        → voices_onwards m n (p + 1) (without_pause x) (map without_pause rest) (marks ++ (voices_episode w, voices_given w) ∷ [])
+        ≡ voices_onwards m n (p + 1) x rest (marks ++ (voices_episode w, voices_given w) ∷ [])
+        → voices_onwards m n p (without_pause w) (map without_pause (x ∷ rest)) marks ≡ voices_onwards m n p w (x ∷ rest) marks
+    by_kind true e more = rw (same_voices_word w (eqb-true (kind w) 9 e)) (rw (e, voices_onwards) (ap (and_then (voices_asked n p w marks)) more))
+    by_kind false e more = rw (kind_unpaused w, e, voices_onwards) (onwards_unpaused m n p w (x ∷ rest) false 0)
+
 pub questions_unpaused : (m : Ceilings) (l : List ℕ) → questions m (without_pauses l) ≡ questions m l
 unfolding questions without_pauses
 questions_unpaused m [] = refl
 questions_unpaused m (w ∷ []) = refl
-questions_unpaused m (w ∷ x ∷ rest) = ap (and_then (head_word m w)) (onwards_unpaused m (head_episodes w) 1 x rest false 0)
+questions_unpaused m (w ∷ x ∷ rest) = ap (and_then (head_word m w)) (voices_unpaused m (head_episodes w) 1 x rest [])
 
 -- the same links are heard, but for their pauses
 heard_unpaused : (a : ℕ) (s : List ℕ) → map joins (heard_from a (map without_pause s)) ≡ map joins (heard_from a s)
@@ -123,16 +148,34 @@ heard_unpaused a (w ∷ rest) = by_kind (is_from w) (is_to w) refl refl (λ b. h
     by_kind true false f g more = rw (other_unpaused w g) (rw (f, heard_from) (more (number w)))
     by_kind false false f g more = rw (other_unpaused w g) (rw (f, g, heard_from) (more a))
 
+-- the marks stay
+marks_unpaused : (s : List ℕ) → marks_of (map without_pause s) ≡ marks_of s
+unfolding marks_of
+marks_unpaused [] = refl
+marks_unpaused (w ∷ rest) = by_kind (ℕ_discrete (kind w) 9) (marks_unpaused rest)
+  where
+    by_kind : Dec (kind w ≡ 9) → marks_of (map without_pause rest) ≡ marks_of rest → marks_of (map without_pause (w ∷ rest)) ≡ marks_of (w ∷ rest)
+    by_kind (yes k) more =
+        rw (same_voices_word w k, marks_voices w (map without_pause rest) k, marks_voices w rest k) (ap (λ (ss : List (ℕ × ℕ)). mark_of w ∷ ss) more)
+    by_kind (no ne) more = marks_other (without_pause w) (map without_pause rest) (λ e. ne (sym (kind_unpaused w) ∙ e)) ∙ more ∙ sym (marks_other w rest ne)
+
 pub links_unpaused : (l : List ℕ) → heard_graph (content_of (without_pauses l)) ≡ heard_graph (content_of l)
 unfolding without_pauses
 links_unpaused [] = refl
-links_unpaused (w ∷ rest) = ap (λ (ls : List (ℕ × ℕ)). record { n = head_episodes w; links = ls }) (heard_unpaused 0 rest)
+links_unpaused (w ∷ rest) =
+    ap₂ (λ (ls : List (ℕ × ℕ)) (ss : List (ℕ × ℕ)). record { n = head_episodes w; links = ls; voices = voices_by ss }) (heard_unpaused 0 rest)
+    (marks_unpaused rest)
 
 pub count_unpaused : (l : List ℕ) → heard_count (without_pauses l) ≡ heard_count l
 count_unpaused l =
     sym (length-map (content_of (without_pauses l)).heard joins)
     ∙ ap (λ (g : Graph). length g.links) (links_unpaused l)
     ∙ length-map (content_of l).heard joins
+
+pub voices_count_unpaused : (l : List ℕ) → voices_count (without_pauses l) ≡ voices_count l
+unfolding without_pauses
+voices_count_unpaused [] = refl
+voices_count_unpaused (w ∷ rest) = ap length (marks_unpaused rest)
 
 version_unpaused : (l : List ℕ) → (content_of (without_pauses l)).version ≡ (content_of l).version
 unfolding without_pauses

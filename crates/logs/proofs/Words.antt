@@ -1,11 +1,12 @@
--- A word is its kind and its number, a head its version and its episodes, and a to word its episode and its pause.
+-- A word is its kind and its number, a head its version and its episodes, a to word its episode and its pause, and a voices word its episode and its
+-- voices.
 use mathlib.Core.Path.{◌≡◌}
 use mathlib.Core.Bool.{true, false}
 use Prim.Native.Nat.{ℕ, ◌+◌, ◌*◌, ◌<◌, ◌^◌}
 use native.Mathlib.Omega.{arith}
 use lib.Dec.{eqb}
 use borrow.Author.Tests.{eqb-true, eqb-false, eq-eqb}
-use Rattle.logs.specs.Words.{kind, number, word, Small, head_episodes, head_version, head_of, to_episode, to_pause, to_word, kind_code}
+use Rattle.logs.specs.Words.{kind, number, word, Small, head_episodes, head_version, head_of, to_episode, to_pause, to_word, voices_episode, voices_given, voices_word, kind_code}
 use Rattle.logs.specs.declared.Kind.{Kind}
 use Rattle.logs.specs.Log.{figure, minutes}
 
@@ -71,6 +72,21 @@ to_sum b p = omega arith
 
 pub to_unpaused_lem : (b : ℕ) → to_word b 0 ≡ word 3 b
 to_unpaused_lem b = omega arith
+
+-- a voices word is made of its two figures, which must fit
+module _ (v c : ℕ) (fits : v < 2 ^ 16) (few : c < 2 ^ 12) where
+  pub voices_kind : kind (voices_word v c) ≡ 9
+  voices_kind = omega arith
+
+  pub voices_episode_lem : voices_episode (voices_word v c) ≡ v
+  voices_episode_lem = omega arith
+
+  pub voices_given_lem : voices_given (voices_word v c) ≡ c
+  voices_given_lem = omega arith
+
+-- as it is computed
+pub voices_sum : (v c : ℕ) → 9 * 2 ^ 28 + c * 2 ^ 16 + v ≡ voices_word v c
+voices_sum v c = omega arith
 
 -- what question 7 looks at, and the pause, by kind
 module _ (w : ℕ) where

@@ -1,10 +1,11 @@
 -- What a call answers, and the answer of each result: the scope's number of its refusal, and the values of what it gives.
 use Rattle.std.specs.Prelude.{ℕ, Bool, true, false, Result, Ok, Err}
 use Rattle.logs.specs.declared.Reason.{Reason}
-use Rattle.logs.specs.declared.Reason.TheVariants.{TooShort, NoHead, TooManyEpisodes, UnknownKind, ToBeforeFrom, FromWithoutTo, NoSuchEpisode, TooManyToWords, NoEnd, WrongCount, OutputTooShort, WorkTooShort, Loop, TooManyBytes, PartOfAWord, NotAReport, NoSuchThread, UnknownVersion}
+use Rattle.logs.specs.declared.Reason.TheVariants.{TooShort, NoHead, TooManyEpisodes, UnknownKind, ToBeforeFrom, FromWithoutTo, NoSuchEpisode, TooManyToWords, NoEnd, WrongCount, OutputTooShort, WorkTooShort, Loop, TooManyBytes, PartOfAWord, NotAReport, NoSuchThread, UnknownVersion, TooManyVoices, TooManyForVoices, VoicesAgain}
 use Rattle.logs.specs.declared.Refusal.{Refusal}
 use Rattle.logs.specs.declared.Head.{Head}
 use Rattle.logs.specs.declared.ToWord.{ToWord}
+use Rattle.logs.specs.declared.VoicesWord.{VoicesWord}
 use Rattle.logs.specs.declared.LogWord.{LogWord}
 use Rattle.logs.specs.declared.LogWord.TheVariants.{From, To, End}
 use Rattle.logs.specs.declared.Reading.{Reading}
@@ -44,6 +45,9 @@ reason_number PartOfAWord = 15
 reason_number NotAReport = 16
 reason_number NoSuchThread = 17
 reason_number UnknownVersion = 18
+reason_number TooManyVoices = 19
+reason_number TooManyForVoices = 20
+reason_number VoicesAgain = 21
 
 -- what a result answers, where `f` tells the values of what it gives
 abbrev pub result_answer : {T A : Type 0} → (T → A) → Result T Refusal → Answer A
@@ -67,6 +71,10 @@ abbrev pub word_figures : LogWord → ℕ × ℕ × ℕ
 word_figures (From x) = numbered 2 x
 word_figures (To t) = to_figures t
 word_figures (End x) = numbered 15 x
+
+-- a voices word's kind, its episode and its voices
+abbrev pub voices_figures : VoicesWord → ℕ × ℕ × ℕ
+voices_figures v = (9, v.episode, v.voices)
 
 -- a log word: its figures, or the refusal that it earns
 abbrev pub word_answer : Result LogWord Refusal → Answer (ℕ × ℕ × ℕ)

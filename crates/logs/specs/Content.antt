@@ -1,6 +1,6 @@
--- What a log tells, apart from its words: its version, the episodes, and the links that were heard, each with a pause. Which links count, and
--- the graph of these, follow from it.
-use Rattle.std.specs.Prelude.{◌≡◌, ◌↔◌, Bool, true, ◌||◌, ℕ, ◌≤◌, min, leb, eqb}
+-- What a log tells, apart from its words: its version, the episodes, the voices of each, and the links that were heard, each with a pause. Which
+-- links count, and the graph of these, follow from it.
+use Rattle.std.specs.Prelude.{◌≡◌, ◌↔◌, Bool, true, ◌||◌, ℕ, ◌≤◌, ◌<◌, min, leb, eqb}
 use Rattle.std.proofs.Math.Logic.Dec
 use Rattle.std.proofs.Math.Bool.{Bool-discrete}
 use mathlib.Core.List.{List, [], ◌∷◌, map, filter, Memᴰ as Mem}
@@ -13,19 +13,20 @@ pub record Heard : Type 0 where
   pub to : ℕ
   pub pause : ℕ
 
--- the version, the episodes 0 to n - 1, and the links that were heard, in the order read
+-- the version, the episodes 0 to n - 1, the voices of each, and the links that were heard, in the order read
 pub record Content : Type 0 where
   pub version : ℕ
   pub n : ℕ
+  pub voices : ℕ → ℕ
   pub heard : List Heard
 
 -- a link that was heard, without its pause
 abbrev pub joins : Heard → ℕ × ℕ
 joins h = (h.from, h.to)
 
--- the episodes and all links that were heard, pauses left out
+-- the episodes with their voices and all links that were heard, pauses left out
 abbrev pub heard_graph : Content → Graph
-heard_graph c = record { n = c.n; links = map joins c.heard }
+heard_graph c = record { n = c.n; links = map joins c.heard; voices = c.voices }
 
 -- the link from `a` to `b` was heard with the pause `p`
 abbrev pub HeardOf : Content → ℕ → ℕ → ℕ → Type 0
@@ -36,10 +37,11 @@ pub record LeastPause (c : Content) (a b p : ℕ) : Type 0 where
   pub heard : HeardOf c a b p
   pub least : (q : ℕ) → HeardOf c a b q → p ≤ q
 
--- the same version, the same episodes, the same set of links that were heard, and the same least pause of each
+-- the same version, the same episodes with as many voices, the same set of links that were heard, and the same least pause of each
 pub record SameContent (c d : Content) : Type 0 where
   pub versions : c.version ≡ d.version
   pub episodes : c.n ≡ d.n
+  pub voices : (v : ℕ) → v < c.n → c.voices v ≡ d.voices v
   pub links : (a b : ℕ) → ((p : ℕ) × HeardOf c a b p) ↔ ((p : ℕ) × HeardOf d a b p)
   pub pauses : (a b p : ℕ) → LeastPause c a b p ↔ LeastPause d a b p
 
@@ -69,9 +71,9 @@ short_enough v p = eqb v 0 || leb p longest_pause
 unfoldable pub counting : Content → List Heard
 counting c = filter (λ (h : Heard). Bool-discrete (short_enough c.version (least_pause c h.from h.to)) true) c.heard
 
--- the graph: the episodes and the links that count, pauses left out
+-- the graph: the episodes with their voices and the links that count, pauses left out
 abbrev pub graph : Content → Graph
-graph c = record { n = c.n; links = map joins (counting c) }
+graph c = record { n = c.n; links = map joins (counting c); voices = c.voices }
 
 -- the links among `hs` that count by their own pause, in version `v`
 unfoldable pub short_of : ℕ → List Heard → List Heard

@@ -1,6 +1,6 @@
--- Older logs, in which no to word has a pause and the head has no version; and questions 1 to 10 and the graph as they were defined before
--- there were pauses, word for word: what older logs are held to.
-use Rattle.std.specs.Prelude.{◌≡◌, Bool, true, false, not, ◌||◌, List, [], ◌∷◌, ℕ, ◌+◌, ◌<◌, ◌^◌, leb, ltb, eqb, get_or, drop}
+-- Older logs, in which no to word has a pause, the head has no version and no word is a voices word; and questions 1 to 10 and the graph as they were
+-- defined before there were pauses, word for word but for the one voice of each episode: what older logs are held to.
+use Rattle.std.specs.Prelude.{◌≡◌, ◌≢◌, Bool, true, false, not, ◌||◌, List, [], ◌∷◌, ℕ, ◌+◌, ◌<◌, ◌^◌, leb, ltb, eqb, get_or, drop}
 use Rattle.order.specs.Order.{All}
 use Rattle.paths.specs.Graph.{Graph}
 use Rattle.logs.specs.Words.{kind, number}
@@ -12,9 +12,9 @@ use Rattle.logs.specs.declared.Ceilings.{Ceilings}
 abbrev pub Unpaused : List ℕ → Type 0
 Unpaused l = All (λ w. kind w ≡ 3 → number w < 2 ^ 16) l
 
--- an older log: that, and the number of its head is below 16,777,216
+-- an older log: that, the number of its head is below 16,777,216, and it has no voices word
 abbrev pub Older : List ℕ → Type 0
-Older l = Unpaused l × (number (get_or l 0 0) < 2 ^ 24)
+Older l = Unpaused l × (number (get_or l 0 0) < 2 ^ 24) × All (λ w. kind w ≢ 9) l
 
 -- ---- as it was
 
@@ -72,4 +72,4 @@ links_from a (w ∷ rest) =
 
 -- the graph of a log
 abbrev pub graph_of : List ℕ → Graph
-graph_of l = record { n = number (get_or l 0 0); links = links_from 0 (drop 1 l) }
+graph_of l = record { n = number (get_or l 0 0); links = links_from 0 (drop 1 l); voices = λ _. 1 }

@@ -7,5 +7,6 @@ pub mod Log
 pub mod Earlier
 pub mod Places
 pub mod Groups
+pub mod Voices
 pub mod Passing
 pub mod Hear

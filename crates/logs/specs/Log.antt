@@ -1,7 +1,7 @@
--- A log: questions 1 to 10 and 18, and what its words tell.
-use Rattle.std.specs.Prelude.{◌≡◌, Bool, true, false, not, ◌&&◌, ◌||◌, List, [], ◌∷◌, map, ℕ, ◌+◌, ◌≤◌, leb, ltb, eqb, length, get_or, drop}
+-- A log: questions 1 to 10 and 18 to 21, and what its words tell.
+use Rattle.std.specs.Prelude.{◌≡◌, Bool, true, false, not, ◌&&◌, ◌||◌, List, [], ◌∷◌, ◌++◌, map, ℕ, ◌+◌, ◌≤◌, leb, ltb, eqb, length, get_or, drop}
 use Rattle.paths.specs.Graph.{Graph}
-use Rattle.logs.specs.Words.{kind, number, head_episodes, head_version, to_episode, to_pause, to_word}
+use Rattle.logs.specs.Words.{kind, number, head_episodes, head_version, to_episode, to_pause, to_word, voices_episode, voices_given}
 use Rattle.logs.specs.Content.{Heard, Content, graph}
 use Rattle.logs.specs.Answer.{Answer, given, refused, question, and_then}
 use Rattle.logs.specs.declared.Ceilings.{Ceilings}
@@ -15,6 +15,17 @@ is_from w = eqb (kind w) 2
 
 abbrev pub is_to : ℕ → Bool
 is_to w = eqb (kind w) 3
+
+abbrev pub is_voices : ℕ → Bool
+is_voices w = eqb (kind w) 9
+
+-- the most episodes of a log with a voices word
+abbrev pub most_with_voices : ℕ
+most_with_voices = 120
+
+-- the most voices of an episode
+abbrev pub most_voices : ℕ
+most_voices = 2
 
 -- the word at place `p` is not the last, and is a to word
 abbrev pub to_before_last : List ℕ → ℕ → Bool
@@ -70,11 +81,44 @@ onwards m n p w [] from t = and_then (log_word m n p w [] from t) (given (n, t))
 onwards m n p w (x ∷ rest) from t =
     and_then (log_word m n p w (x ∷ rest) from t) (onwards m n (p + 1) x rest (from || is_from w) (counted (is_to w) t))
 
--- Questions 1 to 10, and 18: n and the count of to words, or the refusal.
+-- whether one of the marks is of the episode `v`; a mark is an episode and its voices
+unfoldable pub marked : ℕ → List (ℕ × ℕ) → Bool
+marked v [] = false
+marked v (s ∷ ss) = eqb v s.0 || marked v ss
+
+-- Questions 20, 7, 19 and 21, of the voices word `w` at place `p`, before which voices words have given `marks`.
+unfoldable pub voices_asked : ℕ → ℕ → ℕ → List (ℕ × ℕ) → Answer (ℕ × ℕ × ℕ)
+voices_asked n p w marks =
+    question 20 p (leb n most_with_voices)
+    (question 7 p (ltb (voices_episode w) n)
+    (question 19 p (leb (voices_given w) most_voices)
+    (question 21 p (not (marked (voices_episode w) marks))
+    (given (kind w, voices_episode w, voices_given w)))))
+
+-- The questions of each voices word between head and first group, from the word `w` at place `p` on, then 4 to 10 of the words behind them.
+unfoldable pub voices_onwards : Ceilings → ℕ → ℕ → ℕ → List ℕ → List (ℕ × ℕ) → Answer (ℕ × ℕ)
+voices_onwards m n p w [] marks = onwards m n p w [] false 0
+voices_onwards m n p w (x ∷ rest) marks =
+    elim (is_voices w) [
+      | true ↦ and_then (voices_asked n p w marks) (voices_onwards m n (p + 1) x rest (marks ++ (voices_episode w, voices_given w) ∷ []))
+      | false ↦ onwards m n p w (x ∷ rest) false 0
+    ]
+
+-- Questions 1 to 10, and 18 to 21: n and the count of to words, or the refusal.
 unfoldable pub questions : Ceilings → List ℕ → Answer (ℕ × ℕ)
 questions m [] = refused 1 0
 questions m (w ∷ []) = refused 1 0
-questions m (w ∷ x ∷ rest) = and_then (head_word m w) (onwards m (head_episodes w) 1 x rest false 0)
+questions m (w ∷ x ∷ rest) = and_then (head_word m w) (voices_onwards m (head_episodes w) 1 x rest [])
+
+-- The marks that the voices words among the words give, in order.
+unfoldable pub marks_of : List ℕ → List (ℕ × ℕ)
+marks_of [] = []
+marks_of (w ∷ rest) = elim (is_voices w) [ true ↦ (voices_episode w, voices_given w) ∷ marks_of rest | false ↦ marks_of rest ]
+
+-- the voices of the episode `v`: those of its mark, 1 where it has none
+unfoldable pub voices_by : List (ℕ × ℕ) → ℕ → ℕ
+voices_by [] v = 1
+voices_by (s ∷ ss) v = elim (eqb v s.0) [ true ↦ s.1 | false ↦ voices_by ss v ]
 
 -- The links that the words behind the head give, in order: each to word gives one, from the nearest from word before it; `a` is that of
 -- the words before.
@@ -91,7 +135,13 @@ heard_from a (w ∷ rest) =
 
 -- what a log tells
 abbrev pub content_of : List ℕ → Content
-content_of l = record { version = head_version (get_or l 0 0); n = head_episodes (get_or l 0 0); heard = heard_from 0 (drop 1 l) }
+content_of l =
+    record {
+      version = head_version (get_or l 0 0);
+      n = head_episodes (get_or l 0 0);
+      voices = voices_by (marks_of (drop 1 l));
+      heard = heard_from 0 (drop 1 l);
+    }
 
 -- the graph of a log
 abbrev pub graph_of : List ℕ → Graph
@@ -101,11 +151,15 @@ graph_of l = graph (content_of l)
 abbrev pub heard_count : List ℕ → ℕ
 heard_count l = length (content_of l).heard
 
--- the log passes questions 1 to 10 and 18, at some ceilings, with at most 256 episodes
+-- how many voices words the log has
+abbrev pub voices_count : List ℕ → ℕ
+voices_count l = length (marks_of (drop 1 l))
+
+-- the log passes questions 1 to 10 and 18 to 21, at some ceilings, with at most 256 episodes
 abbrev pub PassedLog : List ℕ → Type 0
 PassedLog l = (m : Ceilings) × (n : ℕ) × (t : ℕ) × (questions m l ≡ given (n, t)) × (n ≤ 256)
 
--- the log passes questions 1 to 10 and 18 with `n` episodes and `t` to words, at these as ceilings
+-- the log passes questions 1 to 10 and 18 to 21 with `n` episodes and `t` to words, at these as ceilings
 abbrev pub PassesWith : List ℕ → ℕ → ℕ → Type 0
 PassesWith l n t = questions (record { episodes = n; words = t }) l ≡ given (n, t)
 

@@ -1,7 +1,8 @@
--- A word of 32 bits: its top 4 bits are its kind, its low 28 bits its number. The number of a head and that of a to word are two figures.
+-- A word of 32 bits: its top 4 bits are its kind, its low 28 bits its number. The number of a head, that of a to word and that of a voices word are
+-- two figures.
 use Rattle.std.specs.Prelude.{ℕ, ◌+◌, ◌*◌, ◌/◌, ◌%◌, ◌^◌, ◌<◌}
 use Rattle.logs.specs.declared.Kind.{Kind}
-use Rattle.logs.specs.declared.Kind.TheVariants.{Head, From, To, Width, Apart, Thread, Step, Loop, End}
+use Rattle.logs.specs.declared.Kind.TheVariants.{Head, From, To, Width, Apart, Thread, Step, Loop, Voices, End}
 
 abbrev pub kind : ℕ → ℕ
 kind w = w / 2 ^ 28
@@ -41,6 +42,18 @@ to_pause w = number w / 2 ^ 16
 abbrev pub to_word : ℕ → ℕ → ℕ
 to_word b p = word 3 (p * 2 ^ 16 + b)
 
+-- the episode of a voices word: bits 0 to 15
+abbrev pub voices_episode : ℕ → ℕ
+voices_episode w = number w % 2 ^ 16
+
+-- its voices: bits 16 to 27
+abbrev pub voices_given : ℕ → ℕ
+voices_given w = number w / 2 ^ 16
+
+-- the voices word of the episode `v` and `c` voices
+abbrev pub voices_word : ℕ → ℕ → ℕ
+voices_word v c = word 9 (c * 2 ^ 16 + v)
+
 -- the number of a kind
 abbrev pub kind_code : Kind → ℕ
 kind_code Head = 1
@@ -51,4 +64,5 @@ kind_code Apart = 5
 kind_code Thread = 6
 kind_code Step = 7
 kind_code Loop = 8
+kind_code Voices = 9
 kind_code End = 15

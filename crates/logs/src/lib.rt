@@ -1,15 +1,15 @@
-// The reading of a log: questions 1 to 10, and 18. `as` stands between u32 and usize, since neither has a `From` for the other, and for an enum's
+// The reading of a log: questions 1 to 10, and 18 to 21. `as` stands between u32 and usize, since neither has a `From` for the other, and for an enum's
 // number.
 #![tactic(auto)]
 
-ghost use Rattle.std.specs.Prelude.{◌≡◌, false, ℕ, ◌+◌, ◌^◌, ◌<◌, ◌≤◌, ltb, eqb, List, [], ◌++◌, length, get_or, drop, OnOk};
-ghost use Rattle.logs.specs.Words.{kind, number, word, Small, head_episodes, head_version, head_of, to_episode, to_pause, to_word, kind_code};
+ghost use Rattle.std.specs.Prelude.{◌≡◌, false, ℕ, ◌+◌, ◌^◌, ◌<◌, ◌≤◌, ltb, eqb, List, [], ◌++◌, length, get_or, drop, OnOk, IfOk};
+ghost use Rattle.logs.specs.Words.{kind, number, word, Small, head_episodes, head_version, head_of, to_episode, to_pause, to_word, voices_episode, voices_given, voices_word, kind_code};
 ghost use Rattle.logs.specs.Content.{short_enough};
 ghost use Rattle.logs.specs.Kinds.{KindOf};
-ghost use Rattle.logs.specs.Answer.{given, question, reason_number, result_answer, numbered, head_figures, to_figures, word_answer, read_answer};
-ghost use Rattle.logs.specs.Log.{service, to_before_last, head_word, group_word, end_word, questions, content_of};
-ghost use Rattle.logs.specs.Places.{log_word_at, Stopped};
-ghost use Rattle.logs.specs.Groups.{ToWords, short_links, short_before};
+ghost use Rattle.logs.specs.Answer.{given, question, reason_number, result_answer, numbered, head_figures, to_figures, voices_figures, word_answer, read_answer};
+ghost use Rattle.logs.specs.Log.{service, to_before_last, head_word, group_word, end_word, voices_asked, questions, marks_of, content_of, voices_count};
+ghost use Rattle.logs.specs.Places.{log_word_at, Noted, Stopped, BehindVoices, VoicesEnd};
+ghost use Rattle.logs.specs.Groups.{before, ToWords, short_links, short_before};
 ghost use Rattle.logs.specs.Hear.{Next, where_short};
 
 pub mod numbers;
@@ -38,6 +38,7 @@ pub enum Kind {
     Thread = 6,
     Step = 7,
     Loop = 8,
+    Voices = 9,
     End = 15,
 }
 
@@ -80,6 +81,7 @@ impl TryFrom<u32> for Kind {
             6 => Ok(Kind::Thread),
             7 => Ok(Kind::Step),
             8 => Ok(Kind::Loop),
+            9 => Ok(Kind::Voices),
             15 => Ok(Kind::End),
             _ => Err(Reason::UnknownKind),
         }
@@ -125,6 +127,35 @@ impl ToWord {
         ensures { result ≡ to_word self.episode self.pause }
     {
         Kind::To.code() * 0x1000_0000 + self.pause * 0x1_0000 + self.episode as u32
+    }
+}
+
+// A voices word: its episode and how many voices that has.
+#[derive(Clone, Copy, Debug, PartialEq, Eq)]
+pub struct VoicesWord {
+    pub episode: usize,
+    pub voices: u32,
+}
+
+impl From<u32> for VoicesWord {
+    ghost from_gives = { λ w v. (v.episode ≡ voices_episode w) × (v.voices ≡ voices_given w) };
+
+    fn from(w: u32) -> VoicesWord {
+        let number = number_of(w);
+        VoicesWord {
+            episode: number % 0x1_0000,
+            voices: (number / 0x1_0000) as u32,
+        }
+    }
+}
+
+impl VoicesWord {
+    // The voices word of this episode and these voices.
+    pub fn word(self) -> u32
+        requires { (self.episode < 2 ^ 16) × (self.voices < 2 ^ 12) }
+        ensures { result ≡ voices_word self.episode self.voices }
+    {
+        Kind::Voices.code() * 0x1000_0000 + self.voices * 0x1_0000 + self.episode as u32
     }
 }
 
@@ -185,6 +216,9 @@ pub enum Reason {
     NotAReport = 16,
     NoSuchThread = 17,
     UnknownVersion = 18,
+    TooManyVoices = 19,
+    TooManyForVoices = 20,
+    VoicesAgain = 21,
 }
 
 impl Reason {
@@ -230,11 +264,12 @@ pub enum LogWord {
     End(usize),
 }
 
-// What a log passes with: its count of episodes and of to words.
+// What a log passes with: its count of episodes, of to words and of voices words.
 #[derive(Clone, Copy, Debug, PartialEq, Eq)]
 pub struct Reading {
     pub episodes: usize,
     pub to_words: usize,
+    pub voices_words: usize,
 }
 
 // Questions 2, 18 and 3, of the head: its version and its count of episodes.
@@ -327,6 +362,11 @@ fn tell<H: Hear>(version: u32, hearer: &mut H, row: usize, to: ToWord)
     }
 }
 
+// The most episodes of a log with a voices word, and the most voices of an episode.
+const MOST_WITH_VOICES: usize = 120;
+
+const MOST_VOICES: u32 = 2;
+
 // A place of the log, and the count of to words before it.
 #[derive(Clone, Copy)]
 struct Stop {
@@ -343,6 +383,47 @@ pub struct Questions<'a> {
 }
 
 impl<'a> Questions<'a> {
+    // Questions 20, 7, 19 and 21, of the voices word at `at`, behind the head and voices words; `seen` notes the episodes of these.
+    #[tactic(auto, unfolding(crate::specs::Log::voices_asked))]
+    fn voices_word(self, at: usize, seen: &[bool; MOST_WITH_VOICES]) -> Result<VoicesWord, Refusal>
+        requires { (at < length self.log.now) × (kind (get_or self.log.now at 0) ≡ 9) × Noted seen.now (marks_of (before self.log.now at)) }
+        ensures { result_answer voices_figures result ≡ voices_asked self.entry.n at (get_or self.entry.log.now at 0) (marks_of (before self.entry.log.now at)) }
+    {
+        let mark = VoicesWord::from(self.log[at]);
+        let episode = mark.episode;
+        if MOST_WITH_VOICES < self.n {
+            return Err(Reason::TooManyForVoices.at(at));
+        }
+        if self.n <= episode {
+            return Err(Reason::NoSuchEpisode.at(at));
+        }
+        if MOST_VOICES < mark.voices {
+            return Err(Reason::TooManyVoices.at(at));
+        }
+        if seen[episode] {
+            return Err(Reason::VoicesAgain.at(at));
+        }
+        Ok(mark)
+    }
+
+    // The place behind the voices words that stand behind the head, where each of them passes.
+    fn voices_end(self) -> Result<usize, Refusal>
+        requires { 2 ≤ length self.log.now }
+        ensures { VoicesEnd self.entry.most self.entry.log.now self.entry.n result }
+    {
+        let log = self.log;
+        let last = log.len() - 1;
+        let mut seen = [false; MOST_WITH_VOICES];
+        let mut at = 1;
+        while at < last && Kind::Voices.is_of(log[at]) {
+            let mark = self.voices_word(at, &seen)?;
+            let episode = mark.episode;
+            seen[episode] = true;
+            at += 1;
+        }
+        Ok(at)
+    }
+
     // Questions 6 and 7, of a from word at `at`: its number.
     fn from_word(self, at: usize, earlier: usize) -> Result<usize, Refusal>
         requires { at + 1 < length self.log.now }
@@ -403,26 +484,27 @@ impl<'a> Questions<'a> {
         }
     }
 
-    // The place of the first word between head and end that earns a refusal, or else of the last word. The links before it that their pauses let count
-    // in this version, which is the log's, are heard.
-    fn first_stop<H: Hear>(self, version: u32, hearer: &mut H) -> Stop
-        requires { (2 ≤ length self.log.now) × (version ≡ (content_of self.log.now).version) × (self.n ≤ self.most.episodes) × H.takes self.most.episodes
+    // The place of the first word from `start` on and before the end that earns a refusal, or else of the last word; before `start` stand the head and
+    // voices words. The links before it that their pauses let count in this version, which is the log's, are heard.
+    fn first_stop<H: Hear>(self, start: usize, version: u32, hearer: &mut H) -> Stop
+        requires { BehindVoices self.log.now start × (version ≡ (content_of self.log.now).version) × (self.n ≤ self.most.episodes) × H.takes self.most.episodes
             × H.heard hearer.old [] }
-        ensures { Stopped self.entry.most self.entry.log.now self.entry.n result.place result.count × H.heard hearer.new (short_before self.entry.log.now result.place) }
+        ensures { Stopped self.entry.most self.entry.log.now self.entry.n start result.place result.count
+            × H.heard hearer.new (short_before self.entry.log.now result.place) }
     {
         let log = self.log;
         let last = log.len() - 1;
-        let mut at = 1;
-        // How many words before `at` are no to words: the head and the from words.
-        let mut others = 1;
+        let mut at = start;
+        // How many words before `at` are no to words: the head, the voices words and the from words.
+        let mut others = start;
         // Left by a label that carries the place, as the scope asks; an iterator has groups only of a log that has passed.
         let place = 'log: loop {
             if at == last {
                 break 'log at;
             }
             // A group starts with its from word, which answers question 5 for its to words, and question 6 says that it has one. A to word is
-            // met here only as word 1, before any from word, and refused.
-            let Ok(LogWord::From(from)) = self.group_word(at, 1 < at, at - others) else {
+            // met here only at `start`, before any from word, and refused.
+            let Ok(LogWord::From(from)) = self.group_word(at, start < at, at - others) else {
                 break 'log at;
             };
             let row = H::row(from);
@@ -445,9 +527,9 @@ impl<'a> Questions<'a> {
     }
 }
 
-// Questions 1 to 10 and 18, at a caller's ceilings, in one pass over the log. Where they are answered yes, the links that their pauses let count have
+// Questions 1 to 10 and 18 to 21, at a caller's ceilings, in one pass over the log. Where they are answered yes, the links that their pauses let count have
 // been heard in their order.
-#[tactic(auto, using(crate::proofs::Whole::too_short, crate::proofs::Whole::head_first, crate::proofs::Whole::word_stopped, crate::proofs::Hearing::all_links, crate::proofs::Hearing::its_version))]
+#[tactic(auto, using(crate::proofs::Whole::too_short, crate::proofs::Whole::head_first, crate::proofs::Whole::word_stopped, crate::proofs::Hearing::all_links, crate::proofs::Hearing::all_voices, crate::proofs::Whole::voices_refused, crate::proofs::Hearing::its_version))]
 pub fn read_hearing<H: Hear>(
     most: Ceilings,
     log: &[u32],
@@ -456,6 +538,7 @@ pub fn read_hearing<H: Hear>(
     requires { H.takes most.episodes × H.heard hearer.old [] }
     ensures answer { read_answer result ≡ questions most log.now }
     ensures heard { OnOk result (H.heard hearer.new (short_links log.now)) }
+    ensures voices { IfOk result (λ r. r.voices_words ≡ voices_count log.now) }
 {
     if log.len() < 2 {
         return Err(Reason::TooShort.at(0));
@@ -463,11 +546,13 @@ pub fn read_hearing<H: Hear>(
     let head = head_word(most, log[0])?;
     let n = head.episodes;
     let asked = Questions { most, log, n };
-    let stop = asked.first_stop(head.version, hearer);
-    asked.log_word(stop.place, 1 < stop.place, stop.count)?;
+    let start = asked.voices_end()?;
+    let stop = asked.first_stop(start, head.version, hearer);
+    asked.log_word(stop.place, start < stop.place, stop.count)?;
     Ok(Reading {
         episodes: n,
         to_words: stop.count,
+        voices_words: start - 1,
     })
 }
 
@@ -486,9 +571,10 @@ impl Hear for () {
     fn hear(&mut self, _row: usize, _to: usize, _short: bool) {}
 }
 
-// Questions 1 to 10 and 18, at a caller's ceilings.
+// Questions 1 to 10 and 18 to 21, at a caller's ceilings.
 pub fn read_within(most: Ceilings, log: &[u32]) -> Result<Reading, Refusal>
-    ensures { read_answer result ≡ questions most log.now }
+    ensures answer { read_answer result ≡ questions most log.now }
+    ensures voices { IfOk result (λ r. r.voices_words ≡ voices_count log.now) }
 {
     read_hearing(most, log, &mut ())
 }
@@ -503,7 +589,7 @@ pub fn service_ceilings() -> Ceilings
     }
 }
 
-// Questions 1 to 10 and 18, at the service's ceilings.
+// Questions 1 to 10 and 18 to 21, at the service's ceilings.
 pub fn read(log: &[u32]) -> Result<Reading, Refusal>
     ensures { read_answer result ≡ questions service log.now }
 {

@@ -1,23 +1,26 @@
-// A log that has passed questions 1 to 10 and 18, and its groups.
-ghost use Rattle.std.specs.Prelude.{◌≡◌, ◌-◌, IfOk, length};
+// A log that has passed questions 1 to 10 and 18 to 21, its groups and its voices.
+ghost use Rattle.std.specs.Prelude.{◌≡◌, ◌+◌, ◌-◌, ◌≤◌, IfOk, length, replicate};
 ghost use Rattle.std.specs.Iterator.{at_most};
 ghost use Rattle.logs.specs.Answer.{result_answer};
-ghost use Rattle.logs.specs.Log.{questions, content_of, PassesWith};
+ghost use Rattle.logs.specs.Log.{questions, content_of, voices_count, PassesWith};
 ghost use Rattle.logs.specs.Groups.{Starts};
+ghost use Rattle.logs.specs.Voices.{VoicesRead};
 
-use crate::{Ceilings, Head, Refusal, group_end, number_of, read_within};
+use crate::{Ceilings, Head, Refusal, VoicesWord, group_end, number_of, read_within};
 
-// A log that passes questions 1 to 10 and 18: its words, and its counts of episodes and of to words.
+// A log that passes questions 1 to 10 and 18 to 21: its words, and its counts of episodes, of to words and of voices words.
 #[derive(Clone, Copy)]
 pub struct Log<'a> {
     pub words: &'a [u32],
     pub episodes: usize,
     pub to_words: usize,
+    pub voices_words: usize,
     ghost passes: { PassesWith words.now episodes to_words },
+    ghost voices: { voices_words ≡ voices_count words.now },
 }
 
 impl<'a> Log<'a> {
-    // Questions 1 to 10 and 18, at a caller's ceilings.
+    // Questions 1 to 10 and 18 to 21, at a caller's ceilings.
     pub fn read(most: Ceilings, words: &'a [u32]) -> Result<Log<'a>, Refusal>
         ensures answer { result_answer (λ l. (l.episodes, l.to_words)) result ≡ questions most words.now }
         ensures same { IfOk result (λ l. l.words.now ≡ words.now) }
@@ -27,8 +30,16 @@ impl<'a> Log<'a> {
             words,
             episodes: reading.episodes,
             to_words: reading.to_words,
+            voices_words: reading.voices_words,
         })
     }
+}
+
+// Gives each entry one voice.
+fn one_voice(table: &mut [u32])
+    ensures { table.new ≡ replicate (length table.old) 1 }
+{
+    table.fill(1);
 }
 
 // A group of a log: the episode of its from word, and its to words.
@@ -54,11 +65,26 @@ impl<'a> Log<'a> {
         Head::from(self.words[0]).version
     }
 
-    // The groups, in order.
+    // The groups, in order: they start behind the head and the voices words.
     pub fn groups(self) -> Groups<'a>
-        ensures { (result.log ≡ self.entry) × (result.at ≡ 1) }
+        ensures { (result.log ≡ self.entry) × (result.at ≡ self.entry.voices_words + 1) }
     {
-        Groups { log: self, at: 1 }
+        Groups {
+            log: self,
+            at: self.voices_words + 1,
+        }
+    }
+
+    // The voices of each episode, at the start of a table.
+    pub fn read_voices(self, table: &mut [u32])
+        requires { self.episodes ≤ length table.old }
+        ensures { VoicesRead (content_of self.entry.words.now).voices self.entry.episodes table.old table.new }
+    {
+        one_voice(&mut table[..self.episodes]);
+        for w in &self.words[1..self.voices_words + 1] {
+            let mark = VoicesWord::from(*w);
+            table[mark.episode] = mark.voices;
+        }
     }
 }
 

@@ -1,4 +1,4 @@
--- Lists: no element twice, the members that pass a test, and with a decidable membership those that another list does not have.
+-- Lists: what is in one, no element twice, the members that pass a test, and with a decidable membership those that another list does not have.
 use mathlib.Core.Path.{◌≡◌, refl, sym, ap, subst}
 use mathlib.Core.Logic.Dec
 use mathlib.Core.Logic.{◌≢◌, ◌⊎◌, inl, inr, ⊎_elim, ite}
@@ -26,9 +26,9 @@ use mathlib.Core.List.{
   filter-Sublistᴰ,
   filter-sublist,
 }
-use Prim.Native.Nat.{suc, ◌≤◌, ◌<◌, zero-le}
+use Prim.Native.Nat.{ℕ, zero, suc, ◌≤◌, ◌<◌, zero-le}
 use native.Mathlib.Omega.{arith}
-use lib.ListN.{length}
+use lib.ListN.{length, get_or, replicate}
 use Rattle.order.specs.Order.{All, On}
 
 module _ {A : Type 0} where
@@ -57,6 +57,24 @@ module _ {A : Type 0} where
   nodup_append (a ∷ l) m p q h =
       nodup_cons (λ n. ⊎_elim (nodup_head p) (h a (here refl)) (append_cases l n))
       (nodup_append l m (nodup_tail p) q (λ x n. h x (there n)))
+
+  -- what stands before a member and behind it
+  pub around : {x : A} (l : List A) → Mem x l → (p : List A) × (q : List A) × (l ≡ p ++ x ∷ q)
+  around [] m = absurd (not-nil m)
+  around (y ∷ l) m =
+      ⊎_elim (λ e. ([], l, ap (λ (z : A). z ∷ l) (sym e)))
+      (λ n. let r = around l n in (y ∷ r.0, r.1, ap (λ (k : List A). y ∷ k) r.2))
+      (mem-cases m)
+
+  -- what is read below the length is a member
+  pub get_d_mem : (l : List A) (i : ℕ) (d : A) → i < length l → Mem (get_or l i d) l
+  get_d_mem [] i d h = let none : ⊥ = omega arith in absurd none
+  get_d_mem (y ∷ l) zero d h = here refl
+  get_d_mem (y ∷ l) (suc i) d h = there (get_d_mem l i d (omega arith))
+
+  pub replicate_mem : {x a : A} (n : ℕ) → Mem x (replicate n a) → (x ≡ a) × (1 ≤ n)
+  replicate_mem zero m = absurd (not-nil m)
+  replicate_mem (suc n) m = ⊎_elim (λ e. (e, omega arith)) (λ k. ((replicate_mem n k).0, omega arith)) (mem-cases m)
 
 -- two chains behind each other, where each member of the first is so related to each of the second
 pub chain_append : {A : Type 0} {R : A → A → Type 0} {xs ys : List A} → IsChain R xs → IsChain R ys
@@ -157,6 +175,10 @@ module _ {A : Type 0} (dec : Discrete A) where
   pub without_sublist : (D X : List A) → Sublistᴰ (without D X) X
   unfolding without
   without_sublist D X = filter-Sublistᴰ (λ x. Dec.not (dec_mem dec x D)) X
+
+  pub without_nodup : (D X : List A) → Nodup X → Nodup (without D X)
+  unfolding without
+  without_nodup D X = filter_nodup (λ x. Dec.not (dec_mem dec x D)) X
 
   pub length_without : (D X : List A) → length (without D X) ≤ length X
   unfolding without

@@ -1,20 +1,21 @@
 -- A whole report and its words, both ways: what stands where in one, and that words in which all that stands are one.
 use mathlib.Core.Path.{◌≡◌, refl, sym, ap, ap₂, subst, ◌∙◌}
-use mathlib.Core.Bool.{Bool, false, true≢false}
+use mathlib.Core.Bool.{false, true≢false}
 use mathlib.Core.List.{List, [], ◌∷◌, ◌++◌, map, append_assoc}
 use Prim.Native.Nat.{ℕ, suc, ◌+◌, ◌-◌, ◌≤◌, ◌<◌}
 use native.Mathlib.Omega.{arith}
-use borrow.Author.Tests.{eqb-true, eq-eqb}
+use borrow.Author.Tests.{eqb-true, eq-eqb, ne_eqb}
 use lib.Dec.{eqb}
-use lib.ListN.{length, get_or, take, drop, length-append, length-map, drop_of_length-le}
-use lib.Seq.{drop-cons, take_at, take-take}
+use lib.ListN.{length, get_or, take, drop, length-append, length-map, length-drop, drop_of_length-le}
+use lib.Seq.{drop-cons, take_at, get_or-drop}
+use Rattle.std.proofs.lemmas.List.Sums.{prefix_len_is, prefix_len_passes}
 use Rattle.order.specs.Order.{All}
 use Rattle.logs.specs.Words.{kind, number, word, Small}
 use Rattle.writing.specs.Layout.{thread_words, threads_words, ended, report_words, SmallThread, apart_of, threads_of}
 use Rattle.writing.proofs.Layouts.{apart_of_report, threads_of_report}
 use Rattle.parsing.specs.Whole.{IsReport, Whole, thread_place}
-use Rattle.parsing.specs.Parsing.{OfKind, KindTest, ThreadsEnd, WholeTest, ThreadAt, Room}
-use Rattle.parsing.proofs.Runs.{run_words, run_kinds, part_test}
+use Rattle.parsing.specs.Parsing.{OfKind, apart_count, ThreadsEnd, WholeTest, ThreadAt, Room}
+use Rattle.parsing.proofs.Runs.{run_words, run_kinds}
 use Rattle.parsing.proofs.ThreadParse.{
   drop_behind,
   get_d_first,
@@ -32,31 +33,38 @@ end_at apart threads = length apart + 1 + length (threads_words threads)
 abbrev the_end : List ℕ → List (List ℕ) → List ℕ
 the_end apart threads = word 15 (end_at apart threads) ∷ []
 
--- the apart set's words, then the threads' words, then the end
+-- the apart words, then the threads' words, then the end
 abbrev behind_head : List ℕ → List (List ℕ) → ℕ → List ℕ
 behind_head apart threads end = map (word 5) apart ++ (threads_words threads ++ word 15 end ∷ [])
 
 report_shape : (apart : List ℕ) (threads : List (List ℕ)) (end : ℕ) → end ≡ end_at apart threads
-    → report_words apart threads ≡ word 4 (length apart) ∷ behind_head apart threads end
+    → report_words apart threads ≡ word 4 (length threads) ∷ behind_head apart threads end
 unfolding report_words ended
 report_shape apart threads end e =
+    let head : ℕ = word 4 (length threads) in
     let fives : List ℕ = map (word 5) apart in
-    let count : length (word 4 (length apart) ∷ fives ++ threads_words threads) ≡ end =
+    let count : length (head ∷ fives ++ threads_words threads) ≡ end =
     omega (arith, length-append fives (threads_words threads), length-map apart (word 5)) in
-    ap (λ (l : List ℕ). word 4 (length apart) ∷ l)
-    (append_assoc fives (threads_words threads) (word 15 (length (word 4 (length apart) ∷ fives ++ threads_words threads)) ∷ [])
+    ap (λ (l : List ℕ). head ∷ l)
+    (append_assoc fives (threads_words threads) (word 15 (length (head ∷ fives ++ threads_words threads)) ∷ [])
     ∙ ap (λ (x : ℕ). fives ++ (threads_words threads ++ word 15 x ∷ [])) count)
+
+-- What stands behind the apart words is of kind 6, the first thread's word, or of kind 15, the end.
+first_behind : (threads : List (List ℕ)) (end : ℕ) → 6 ≤ kind (get_or (threads_words threads ++ word 15 end ∷ []) 0 0)
+unfolding threads_words thread_words
+first_behind [] end = omega arith
+first_behind (t ∷ ts) end = omega arith
 
 -- What stands where in a whole report.
 module _ (ws apart : List ℕ) (threads : List (List ℕ)) (report : IsReport ws apart threads) where
-  report_words_lem : ws ≡ word 4 (length apart) ∷ behind_head apart threads (end_at apart threads)
+  report_words_lem : ws ≡ word 4 (length threads) ∷ behind_head apart threads (end_at apart threads)
   report_words_lem = report.words ∙ report_shape apart threads (end_at apart threads) refl
 
-  -- the width
-  report_first : get_or ws 0 0 ≡ word 4 (length apart)
+  -- k, the number of threads
+  report_first : get_or ws 0 0 ≡ word 4 (length threads)
   report_first = ap (λ (l : List ℕ). get_or l 0 0) report_words_lem
 
-  pub report_head : (kind (get_or ws 0 0) ≡ 4) × (number (get_or ws 0 0) ≡ length apart)
+  pub report_head : (kind (get_or ws 0 0) ≡ 4) × (number (get_or ws 0 0) ≡ length threads)
   report_head =
       let first = report_first in
       let few = report.width_fits in
@@ -64,12 +72,6 @@ module _ (ws apart : List ℕ) (threads : List (List ℕ)) (report : IsReport ws
 
   report_behind : drop 1 ws ≡ behind_head apart threads (end_at apart threads)
   report_behind = ap (drop 1) report_words_lem
-
-  -- the apart set
-  pub report_fives : (k : ℕ) → number (get_or ws 0 0) ≡ k → OfKind ws 1 (k + 1) 5
-  report_fives k width j le lt =
-      let head = report_head.1 in
-      run_kinds 5 ws 1 apart (threads_words threads ++ the_end apart threads) report.apart_fits report_behind j le (omega arith)
 
   -- the threads
   report_threads : drop (length apart + 1) ws ≡ threads_words threads ++ the_end apart threads
@@ -88,8 +90,22 @@ module _ (ws apart : List ℕ) (threads : List (List ℕ)) (report : IsReport ws
       omega (arith, length_behind ws (end_at apart threads) (the_end apart threads) [] (omega arith) report_end)
 
   -- there is room for the head, the apart set and the end
-  pub report_room : number (get_or ws 0 0) + 2 ≤ length ws
-  report_room = omega (arith, report_head.1, report_long)
+  pub report_room : length apart + 2 ≤ length ws
+  report_room = omega (arith, report_long)
+
+  -- the apart words end where the first thread or the end stands
+  pub report_apart : apart_count ws ≡ length apart
+  report_apart =
+      let fives = run_kinds 5 ws 1 apart (threads_words threads ++ the_end apart threads) report.apart_fits report_behind in
+      let same : 1 + length apart ≡ length apart + 1 + 0 = omega arith in
+      let next : get_or (drop 1 ws) (length apart) 0 ≡ get_or (threads_words threads ++ the_end apart threads) 0 0 =
+      get_or-drop 1 ws (length apart) 0 ∙ ap (λ (x : ℕ). get_or ws x 0) same ∙ sym (get_or-drop (length apart + 1) ws 0 0)
+      ∙ ap (λ (l : List ℕ). get_or l 0 0) report_threads in
+      prefix_len_is (λ w. eqb (kind w) 5) (drop 1 ws) (length apart) 0
+      (omega (arith, length-drop 1 ws, report_long))
+      (λ j lt. eq-eqb (kind (get_or (drop 1 ws) j 0)) 5 (ap kind (get_or-drop 1 ws j 0) ∙ fives (1 + j) (omega arith) (omega arith)))
+      (λ lt. ne_eqb (kind (get_or (drop 1 ws) (length apart) 0)) 5
+      (λ e. omega (arith, ap kind next, first_behind threads (end_at apart threads))))
 
   pub report_last : (end : ℕ) → end + 1 ≡ length ws → (kind (get_or ws end 0) ≡ 15) × (number (get_or ws end 0) ≡ end)
   report_last end e =
@@ -99,23 +115,23 @@ module _ (ws apart : List ℕ) (threads : List (List ℕ)) (report : IsReport ws
       let small : Small end = omega (arith, report.count_fits) in
       (omega arith, omega arith)
 
-  -- the threads, from the place on that the width gives
-  from_threads : (k : ℕ) → number (get_or ws 0 0) ≡ k → drop (k + 1) ws ≡ threads_words threads ++ the_end apart threads
-  from_threads k width =
-      subst (λ (x : ℕ). drop (x + 1) ws ≡ threads_words threads ++ the_end apart threads) (sym report_head.1 ∙ width) report_threads
+  -- the threads, from the place on that the count of the apart words gives
+  from_threads : (n : ℕ) → n ≡ apart_count ws → drop (n + 1) ws ≡ threads_words threads ++ the_end apart threads
+  from_threads n is =
+      subst (λ (x : ℕ). drop (x + 1) ws ≡ threads_words threads ++ the_end apart threads) (sym (is ∙ report_apart)) report_threads
 
-  pub report_ends : (k end : ℕ) → number (get_or ws 0 0) ≡ k → ThreadsEnd ws (k + 1) k end → end + 1 ≡ length ws
-  report_ends k end width ends =
-      let same : length threads ≡ k = omega (arith, report.same, report_head.1) in
-      let last = ends.behind threads (the_end apart threads) same report.threads_fit (from_threads k width) in
-      omega (arith, report_long, report_head.1)
+  pub report_ends : (n k end : ℕ) → n ≡ apart_count ws → number (get_or ws 0 0) ≡ k → ThreadsEnd ws (n + 1) k end → end + 1 ≡ length ws
+  report_ends n k end is width ends =
+      let same : length threads ≡ k = omega (arith, report_head.1) in
+      let last = ends.behind threads (the_end apart threads) same report.threads_fit (from_threads n is) in
+      omega (arith, report_long, report_apart)
 
   -- thread `i` stands behind the `i` threads before it
-  pub report_thread : (k i r : ℕ) → number (get_or ws 0 0) ≡ k → ThreadsEnd ws (k + 1) i r → i < length threads
+  pub report_thread : (n i r : ℕ) → n ≡ apart_count ws → ThreadsEnd ws (n + 1) i r → i < length threads
       → (r ≡ thread_place apart threads i) × (rest : List ℕ) × (drop r ws ≡ thread_words (get_or threads i []) ++ rest)
-  report_thread k i r width ends lt =
-      let behind = thread_behind ws (k + 1) i r ends threads (the_end apart threads) lt report.threads_fit (from_threads k width) in
-      (omega (arith, behind.0, report_head.1), threads_words (drop (suc i) threads) ++ the_end apart threads, behind.1)
+  report_thread n i r is ends lt =
+      let behind = thread_behind ws (n + 1) i r ends threads (the_end apart threads) lt report.threads_fit (from_threads n is) in
+      (omega (arith, behind.0, report_apart), threads_words (drop (suc i) threads) ++ the_end apart threads, behind.1)
 
 -- A whole report is one in one way only: its apart set and its threads are those that its words give back.
 pub report_read : (ws apart : List ℕ) (threads : List (List ℕ)) → IsReport ws apart threads
@@ -127,13 +143,13 @@ report_read ws apart threads report =
     )
 
 -- Words in which all that stands are a whole report.
-words_found : (ws apart : List ℕ) (threads : List (List ℕ)) (end : ℕ) → end + 1 ≡ length ws → get_or ws 0 0 ≡ word 4 (length apart)
+words_found : (ws apart : List ℕ) (threads : List (List ℕ)) (end : ℕ) → end + 1 ≡ length ws → get_or ws 0 0 ≡ word 4 (length threads)
     → drop 1 ws ≡ map (word 5) apart ++ drop (1 + length apart) ws → drop (1 + length apart) ws ≡ threads_words threads ++ drop end ws
     → get_or ws end 0 ≡ word 15 end → ws ≡ report_words apart threads
 words_found ws apart threads end long first apart_words threads-words last =
     let end-words : drop end ws ≡ word 15 end ∷ [] =
     drop-cons ws end 0 (omega arith) ∙ ap₂ (λ (x : ℕ) (l : List ℕ). x ∷ l) last (drop_of_length-le ws {i = suc end} (omega arith)) in
-    let words : ws ≡ word 4 (length apart) ∷ behind_head apart threads end =
+    let words : ws ≡ word 4 (length threads) ∷ behind_head apart threads end =
     drop-cons ws 0 0 (omega arith)
     ∙ ap₂ (λ (x : ℕ) (l : List ℕ). x ∷ l) first
     (apart_words
@@ -148,34 +164,36 @@ words_found ws apart threads end long first apart_words threads-words last =
     ) in
     words ∙ sym (report_shape apart threads end at-end)
 
-pub whole_found : (ws : List ℕ) (k end : ℕ) → kind (get_or ws 0 0) ≡ 4 → number (get_or ws 0 0) ≡ k → k + 2 ≤ length ws
-    → OfKind ws 1 (k + 1) 5 → ThreadsEnd ws (k + 1) k end → end + 1 ≡ length ws → kind (get_or ws end 0) ≡ 15 → number (get_or ws end 0) ≡ end → Whole ws
-whole_found ws k end four width long fives ends long-end fifteen count =
-    let (apart, size, small, apart_words) = run_words 5 k ws 1 (omega arith) (λ j le lt. fives j le (omega arith)) in
+-- the words that the count of the apart words counts are of kind 5
+counted_fives : (ws : List ℕ) → OfKind ws 1 (apart_count ws + 1) 5
+counted_fives ws j le lt =
+    let same : 1 + (j - 1) ≡ j = omega arith in
+    eqb-true (kind (get_or ws j 0)) 5
+    (ap (λ (x : ℕ). eqb (kind (get_or ws x 0)) 5) (sym same) ∙ ap (λ (x : ℕ). eqb (kind x) 5) (sym (get_or-drop 1 ws (j - 1) 0))
+    ∙ prefix_len_passes (λ w. eqb (kind w) 5) (drop 1 ws) (j - 1) 0 (omega arith))
+
+-- words that pass all tests are a whole report
+pub whole_found : (ws : List ℕ) (n k end : ℕ) → kind (get_or ws 0 0) ≡ 4 → number (get_or ws 0 0) ≡ k → n ≡ apart_count ws → n ≤ k
+    → n + 1 ≤ length ws → ThreadsEnd ws (n + 1) k end → 0 < end → end + 1 ≡ length ws → kind (get_or ws end 0) ≡ 15 → number (get_or ws end 0) ≡ end
+    → Whole ws
+whole_found ws n k end four width is few long ends some long-end fifteen count =
+    let fives = counted_fives ws in
+    let (apart, size, small, apart_words) = run_words 5 n ws 1 (omega arith) (λ j le lt. fives j le (omega arith)) in
     let (threads, same, fit, threads-words) = ends.found (omega arith) in
-    let there : 1 + k ≡ 1 + length apart = omega arith in
-    let here : k + 1 ≡ 1 + length apart = omega arith in (
+    let there : 1 + n ≡ 1 + length apart = omega arith in
+    let here : n + 1 ≡ 1 + length apart = omega arith in (
       apart,
       threads,
       record {
         words =
             words_found ws apart threads end long-end (omega arith) (rw (there) at apart_words) (rw (here) at threads-words) (omega arith);
-        same = omega arith;
+        few = omega arith;
         width_fits = omega arith;
         apart_fits = small;
         threads_fit = fit;
         count_fits = omega arith;
       },
     )
-
--- the test of the apart set's words, which are the first `k` between the first word and the last
-pub fives_test : (ws fives : List ℕ) (k : ℕ) (r : Bool) → k + 2 ≤ length ws → fives ≡ take (k - 0) (take (length ws - 1 - 1) (drop 1 ws))
-    → KindTest fives 0 (length fives) 5 r → KindTest ws 1 (k + 1) 5 r
-fives_test ws fives k r fits is test =
-    let same : k - 0 ≡ k + 1 - 1 = omega arith in
-    part_test ws fives 1 (k + 1) 5 r
-    (is ∙ take-take (k - 0) (length ws - 1 - 1) (drop 1 ws) (omega arith) ∙ ap (λ (n : ℕ). take n (drop 1 ws)) same)
-    (omega arith) (omega arith) test
 
 -- where the count at the end decides
 pub count_test : (ws : List ℕ) (count end : ℕ) → (count ≡ end → Whole ws) → (Whole ws → count ≡ end) → WholeTest ws (eqb count end)

@@ -1,5 +1,6 @@
 -- What the steps of the parse find.
-use Rattle.std.specs.Prelude.{◌≡◌, Bool, true, false, List, [], ◌++◌, ℕ, ◌+◌, ◌≤◌, ◌<◌, length, get_or, drop}
+use Rattle.std.specs.Prelude.{◌≡◌, Bool, true, false, List, [], ◌++◌, ℕ, ◌+◌, ◌≤◌, ◌<◌, eqb, length, get_or, drop}
+use Rattle.std.specs.List.{prefix_len}
 use Rattle.order.specs.Order.{All}
 use Rattle.logs.specs.Words.{kind, number}
 use Rattle.writing.specs.Layout.{thread_words, threads_words}
@@ -13,6 +14,10 @@ OfKind ws from end k = (j : ℕ) → from ≤ j → j < end → kind (get_or ws 
 pub record KindTest (ws : List ℕ) (from end k : ℕ) (r : Bool) : Type 0 where
   pub all : r ≡ true → OfKind ws from end k
   pub not_all : r ≡ false → OfKind ws from end k → ⊥
+
+-- how many words of kind 5 stand behind the first word, up to the first of another kind
+abbrev pub apart_count : List ℕ → ℕ
+apart_count ws = prefix_len (λ w. eqb (kind w) 5) (drop 1 ws)
 
 -- `r` is the place behind the thread that stands at `at`, or 0 where none does
 pub record ThreadEnd (ws : List ℕ) (at r : ℕ) : Type 0 where

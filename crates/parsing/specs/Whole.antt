@@ -8,11 +8,12 @@ use Rattle.writing.specs.Layout.{report_words, threads_words, SmallThread}
 abbrev pub ThreadFits : List ℕ → Type 0
 ThreadFits t = (1 ≤ length t) × SmallThread t
 
--- `ws` is a whole report with these apart words and threads: the words of the layout, and nothing behind them. Each number fits a word.
+-- `ws` is a whole report with these apart words and threads: the words of the layout, with at most as many apart words as threads, and nothing behind
+-- them. Each number fits a word.
 pub record IsReport (ws apart : List ℕ) (threads : List (List ℕ)) : Type 0 where
   pub words : ws ≡ report_words apart threads
-  pub same : length threads ≡ length apart
-  pub width_fits : Small (length apart)
+  pub few : length apart ≤ length threads
+  pub width_fits : Small (length threads)
   pub apart_fits : All Small apart
   pub threads_fit : All ThreadFits threads
   pub count_fits : length ws ≤ 2 ^ 28

@@ -1,10 +1,10 @@
 // A report's words taken apart: whether they are a whole report, and where its threads stand.
 #![tactic(auto)]
 
-ghost use Rattle.std.specs.Prelude.{◌≡◌, ◌<◌, ◌≤◌, length, get_or, unwrap_or, IfSome};
+ghost use Rattle.std.specs.Prelude.{◌≡◌, ◌<◌, ◌≤◌, ◌-◌, length, get_or, unwrap_or, IfSome};
 ghost use Rattle.logs.specs.Words.{number, kind_code};
 ghost use Rattle.parsing.specs.Whole.{HasThread};
-ghost use Rattle.parsing.specs.Parsing.{KindTest, ThreadEnd, ThreadsEnd, WholeTest, ThreadAt, Room};
+ghost use Rattle.parsing.specs.Parsing.{KindTest, apart_count, ThreadEnd, ThreadsEnd, WholeTest, ThreadAt, Room};
 
 use logs::Kind;
 
@@ -13,6 +13,18 @@ fn all_of_kind(words: &[u32], kind: Kind) -> bool
     ensures { KindTest words.now 0 (length words.now) (kind_code kind) result }
 {
     words.iter().all(|w| kind.is_of(*w))
+}
+
+// How many apart words a report has: those of kind 5 behind the first word, up to the first of another kind.
+fn apart_count(report: &[u32]) -> usize
+    ensures count { result ≡ apart_count report.now }
+    ensures within { result ≤ length report.now - 1 }
+{
+    report
+        .iter()
+        .skip(1)
+        .take_while(|w| Kind::Apart.is_of(**w))
+        .count()
 }
 
 // The place behind the thread that stands at `at`, if one does.
@@ -53,25 +65,23 @@ pub fn width(report: &[u32]) -> usize
     report.first().map_or(0, |w| logs::number_of(*w))
 }
 
-// Whether the words are a whole report: kind 4 with the width, as many words of kind 5, as many threads, and kind F with the count of
-// the words before it as the last word.
+// Whether the words are a whole report: kind 4 with k, at most k words of kind 5, then k threads, and kind F with the count of the words before it
+// as the last word.
 pub fn is_whole(report: &[u32]) -> bool
     ensures { WholeTest report.now result }
 {
-    let [head, middle @ .., last] = report else {
+    let [head, .., last] = report else {
         return false;
     };
     if !Kind::Width.is_of(*head) {
         return false;
     }
     let k = logs::number_of(*head);
-    let Some(apart) = middle.get(..k) else {
-        return false;
-    };
-    if !all_of_kind(apart, Kind::Apart) {
+    let apart = apart_count(report);
+    if k < apart {
         return false;
     }
-    let Some(end) = threads_end(report, k + 1, k) else {
+    let Some(end) = threads_end(report, apart + 1, k) else {
         return false;
     };
     if end + 1 != report.len() {
@@ -86,5 +96,5 @@ pub fn thread_at(report: &[u32], i: usize) -> usize
     ensures there { ThreadAt report.now i result }
     ensures room { Room report.now result }
 {
-    threads_end(report, width(report) + 1, i).unwrap()
+    threads_end(report, apart_count(report) + 1, i).unwrap()
 }

@@ -4,7 +4,6 @@
 use mathlib.Core.Path.{◌≡◌, refl, subst}
 use mathlib.Core.Bool.{Bool, true, false, not, ◌&&◌, ◌||◌}
 use mathlib.Core.Logic.{◌⊎◌, inl, inr, ⊎_elim}
-use mathlib.Core.List.Memᴰ
 use mathlib.Core.List.Memᴰ.{cases_cons as mem-cases}
 use mathlib.Core.List.Memᴰ.{head as here}
 use mathlib.Core.List.Memᴰ.{not-nil}
@@ -19,10 +18,11 @@ use mathlib.Core.List.{
   Memᴰ as Mem,
   Nodup,
 }
-use Prim.Native.Nat.{ℕ, zero, suc}
-use lib.Dec.{T, T_not, eqb, eqb→eq, eqb_refl, ltb, ltb→lt}
+use Prim.Native.Nat.{ℕ, zero, suc, ◌≤◌}
+use native.Mathlib.Omega.{arith}
+use lib.Dec.{T, T_not, eqb, eqb→eq, leb, leb→le, ltb, ltb→lt}
 use lib.ListN.{length}
-use Rattle.order.specs.Order.{All, On, Chain, single, more}
+use Rattle.order.specs.Order.{All, Chain, single, more}
 use Rattle.order.proofs.Lists.{all_nil, all_cons, nodup_cons}
 use Rattle.paths.specs.Graph.{
   Graph,
@@ -35,10 +35,13 @@ use Rattle.paths.specs.Graph.{
   Cover,
   Apart,
   Smallest,
-  Largest,
+  Heaviest,
   Furthest,
   Rising,
   Loop,
+  member,
+  passing_threads,
+  weight,
 }
 use Rattle.paths.specs.Links as links
 use Rattle.paths.specs.Closure.{WayBelow}
@@ -46,7 +49,8 @@ use Rattle.paths.specs.Trimmed.{Stays, Trimmed, Implied}
 use Rattle.paths.proofs.Links.{linked_mem, mem_linked}
 use Rattle.paths.proofs.Ways.{way_below, below_way, way_first}
 use Rattle.paths.proofs.Numbers.{below, lt_below}
-use Rattle.paths.proofs.Duality.{equal_smallest, equal_largest}
+use Rattle.paths.proofs.Counting.{member_mem, mem_member}
+use Rattle.paths.proofs.Duality.{equal_smallest, equal_heaviest}
 use Rattle.paths.proofs.Furthest.{Behind, furthest_by_threads}
 use Rattle.paths.proofs.Trimming.{stays_direct, direct_stays}
 
@@ -105,20 +109,13 @@ module _ {A : Type 0} where
       (λ n. right (f y) (some f l) (some_all f l n h))
       (mem-cases m)
 
-unfoldable pub member : ℕ → List ℕ → Bool
-unfolding some
-member x l = some (eqb x) l
-
 pub member_right : (x : ℕ) (l : List ℕ) → T (member x l) → Mem x l
-unfolding member
-member_right x l h = let r = some_right (eqb x) l h in Memᴰ.cast (eqb→eq x r.0 r.2) r.1
+member_right x l h = member_mem x l (holds (member x l) h)
 
 pub member_all : (x : ℕ) (l : List ℕ) → Mem x l → T (member x l)
-unfolding member
-member_all x l m = some_all (eqb x) l m (eqb_refl x)
+member_all x l m = rw (mem_member x l m) tt
 
 unfoldable pub different : List ℕ → Bool
-unfolding member
 different [] = true
 different (x ∷ l) = not (member x l) && different l
 
@@ -195,7 +192,7 @@ module _ (g : Graph) where
   unfolding each
   ends_test = each (λ l. ltb l.0 g.n && ltb l.1 g.n) g.links
 
-  ends_right : T ends_test → EndsBelow g
+  pub ends_right : T ends_test → EndsBelow g
   unfolding ends_test
   ends_right h a b m =
       let t = each_right (λ (l : ℕ × ℕ). ltb l.0 g.n && ltb l.1 g.n) g.links h (a, b) m in
@@ -218,20 +215,21 @@ module _ (g : Graph) where
       let q = both (episodes_test t) (chained linked t) h in
       record { episodes = episodes_right t q.0; path = chained_right linked linked_right t q.1 }
 
-  unfoldable pub cover_test : List (List ℕ) → Bool
-  unfolding episodes_test thread_test each some member chained linked below
-  cover_test ts = each thread_test ts && each (λ v. some (member v) ts) (below g.n)
+  -- whether enough threads pass `v`
+  enough : List (List ℕ) → ℕ → Bool
+  enough ts v = leb (g.voices v) (passing_threads v ts)
 
-  on_right : (ts : List (List ℕ)) (v : ℕ) → T (some (member v) ts) → On ts v
-  on_right ts v h = let r = some_right (member v) ts h in (r.0, r.1, member_right v r.0 r.2)
+  unfoldable pub cover_test : List (List ℕ) → Bool
+  unfolding episodes_test thread_test enough each member passing_threads chained linked below
+  cover_test ts = each thread_test ts && each (enough ts) (below g.n)
 
   pub cover_right : (ts : List (List ℕ)) → T (cover_test ts) → Cover g ts
-  unfolding cover_test
+  unfolding cover_test enough
   cover_right ts h =
-      let q = both (each thread_test ts) (each (λ v. some (member v) ts) (below g.n)) h in
+      let q = both (each thread_test ts) (each (enough ts) (below g.n)) h in
       record {
         threads = λ t m. thread_right t (each_right thread_test ts q.0 t m);
-        whole = λ v e. on_right ts v (each_right (λ v. some (member v) ts) (below g.n) q.1 v (lt_below g.n e));
+        enough = λ v e. leb→le (g.voices v) (passing_threads v ts) (each_right (enough ts) (below g.n) q.1 v (lt_below g.n e));
       }
 
   unfoldable pub acyclic_test : Bool
@@ -267,17 +265,22 @@ module _ (g : Graph) where
   no_way : List ℕ → ℕ → Bool
   no_way s a = each (λ b. eqb a b || not (reaches g.n a b)) s
 
+  voiced_test : List ℕ → Bool
+  voiced_test s = each (λ v. ltb 0 (g.voices v)) s
+
   unfoldable pub apart_test : List ℕ → Bool
-  unfolding episodes_test no_way each different reaches
-  apart_test s = episodes_test s && (different s && each (no_way s) s)
+  unfolding episodes_test voiced_test no_way each different member reaches
+  apart_test s = episodes_test s && (voiced_test s && (different s && each (no_way s) s))
 
   pub apart_right : EndsBelow g → (s : List ℕ) → T (apart_test s) → Apart g s
-  unfolding apart_test no_way
+  unfolding apart_test voiced_test no_way
   apart_right ends s h =
-      let q = both (episodes_test s) (different s && each (no_way s) s) h in
-      let r = both (different s) (each (no_way s) s) q.1 in
+      let q = both (episodes_test s) (voiced_test s && (different s && each (no_way s) s)) h in
+      let p = both (voiced_test s) (different s && each (no_way s) s) q.1 in
+      let r = both (different s) (each (no_way s) s) p.1 in
       record {
         episodes = episodes_right s q.0;
+        voiced = λ v m. omega (arith, ltb→lt 0 (g.voices v) (each_right (λ v. ltb 0 (g.voices v)) s p.0 v m));
         antichain = record { once = different_right s r.0; apart = λ m n. none r.1 m n };
       }
     where
@@ -287,31 +290,31 @@ module _ (g : Graph) where
           (either (eqb a b) (not (reaches g.n a b))
           (each_right (λ b. eqb a b || not (reaches g.n a b)) s (each_right (no_way s) s h a m) b n))
 
-  -- `v` is `b`, has a way to `b`, or is on one of the threads
+  -- `v` is `b`, has a way to `b`, or enough of the threads pass it
   held_test : ℕ → List (List ℕ) → ℕ → Bool
-  held_test b ts v = eqb v b || (reaches g.n v b || some (member v) ts)
+  held_test b ts v = eqb v b || (reaches g.n v b || enough ts v)
 
   behind_test : List ℕ → ℕ → List (List ℕ) → Bool
-  behind_test s b ts = each thread_test ts && (ltb (length ts) (length s) && each (held_test b ts) (below g.n))
+  behind_test s b ts = each thread_test ts && (ltb (length ts) (weight g s) && each (held_test b ts) (below g.n))
 
   behind_right : (s : List ℕ) (b : ℕ) (ts : List (List ℕ)) → T (behind_test s b ts) → Behind g s b
-  unfolding behind_test held_test
+  unfolding behind_test held_test enough
   behind_right s b ts h =
-      let q = both (each thread_test ts) (ltb (length ts) (length s) && each (held_test b ts) (below g.n)) h in
-      let r = both (ltb (length ts) (length s)) (each (held_test b ts) (below g.n)) q.1 in
+      let q = both (each thread_test ts) (ltb (length ts) (weight g s) && each (held_test b ts) (below g.n)) h in
+      let r = both (ltb (length ts) (weight g s)) (each (held_test b ts) (below g.n)) q.1 in
       record {
         threads = ts;
         are_threads = λ t m. thread_right t (each_right thread_test ts q.0 t m);
-        fewer = ltb→lt (length ts) (length s) r.0;
-        hold = λ v e. held v (each_right (held_test b ts) (below g.n) r.1 v (lt_below g.n e));
+        fewer = ltb→lt (length ts) (weight g s) r.0;
+        enough = λ v e. held v (each_right (held_test b ts) (below g.n) r.1 v (lt_below g.n e));
       }
     where
-      held : (v : ℕ) → T (held_test b ts v) → (v ≡ b) ⊎ (Way g v b ⊎ On ts v)
+      held : (v : ℕ) → T (held_test b ts v) → (v ≡ b) ⊎ (Way g v b ⊎ (g.voices v ≤ passing_threads v ts))
       held v t =
           let way : T (reaches g.n v b) → Way g v b = λ w. below_way g g.n (reaches_right g.n v b w) in
-          let rest : T (reaches g.n v b || some (member v) ts) → Way g v b ⊎ On ts v =
-          λ u. ⊎_elim (λ w. inl (way w)) (λ o. inr (on_right ts v o)) (either (reaches g.n v b) (some (member v) ts) u) in
-          ⊎_elim (λ e. inl (eqb→eq v b e)) (λ u. inr (rest u)) (either (eqb v b) (reaches g.n v b || some (member v) ts) t)
+          let rest : T (reaches g.n v b || enough ts v) → Way g v b ⊎ (g.voices v ≤ passing_threads v ts) =
+          λ u. ⊎_elim (λ w. inl (way w)) (λ o. inr (leb→le (g.voices v) (passing_threads v ts) o)) (either (reaches g.n v b) (enough ts v) u) in
+          ⊎_elim (λ e. inl (eqb→eq v b e)) (λ u. inr (rest u)) (either (eqb v b) (reaches g.n v b || enough ts v) t)
 
   -- a list of threads for each member
   behind_each : List ℕ → List ℕ → List (List (List ℕ)) → Bool
@@ -329,16 +332,16 @@ module _ (g : Graph) where
       all_cons (behind_right s b ts q.0) (behind_each_lem s r bs q.1)
 
   unfoldable pub furthest_test : List ℕ → List (List (List ℕ)) → Bool
-  unfolding behind_each behind_test held_test thread_test episodes_test each some member chained linked reaches below
+  unfolding behind_each behind_test held_test enough thread_test episodes_test each member passing_threads weight chained linked reaches below
   furthest_test s bs = behind_each s s bs
 
-  pub furthest_right : EndsBelow g → (s : List ℕ) (bs : List (List (List ℕ))) → Apart g s → Largest g s → T (furthest_test s bs)
+  pub furthest_right : EndsBelow g → (s : List ℕ) (bs : List (List (List ℕ))) → Apart g s → Heaviest g s → T (furthest_test s bs)
       → Furthest g s
   unfolding furthest_test
-  furthest_right ends s bs apart largest h = furthest_by_threads ends apart largest (behind_each_lem s s bs h)
+  furthest_right ends s bs apart heaviest h = furthest_by_threads ends apart heaviest (behind_each_lem s s bs h)
 
   unfoldable pub loop_test : List ℕ → Bool
-  unfolding episodes_test each different chained linked
+  unfolding episodes_test each different member chained linked
   loop_test [] = false
   loop_test (a ∷ p) = episodes_test (a ∷ p) && (different (a ∷ p) && chained linked (a ∷ p ++ a ∷ []))
 
@@ -365,14 +368,14 @@ pub record Settled (g : Graph) (ts : List (List ℕ)) (s : List ℕ) : Type 0 wh
   pub smallest : Smallest g ts
   pub furthest : Furthest g s
   pub rising : Rising s
-  pub same : length ts ≡ length s
+  pub same : length ts ≡ weight g s
 
 module _ (g : Graph) (ts : List (List ℕ)) (s : List ℕ) (bs : List (List (List ℕ))) where
   pair_test : Bool
-  pair_test = cover_test g ts && (apart_test g s && eqb (length ts) (length s))
+  pair_test = cover_test g ts && (apart_test g s && eqb (length ts) (weight g s))
 
   unfoldable pub settled_test : Bool
-  unfolding pair_test ends_test acyclic_test cover_test apart_test rises furthest_test
+  unfolding pair_test ends_test acyclic_test cover_test apart_test weight rises furthest_test
   settled_test = ends_test g && (acyclic_test g && (pair_test && (rises s && furthest_test g s bs)))
 
   pub settled_right : T settled_test → Settled g ts s
@@ -382,18 +385,18 @@ module _ (g : Graph) (ts : List (List ℕ)) (s : List ℕ) (bs : List (List (Lis
       let h₂ = both (acyclic_test g) (pair_test && (rises s && furthest_test g s bs)) h₁.1 in
       let h₃ = both pair_test (rises s && furthest_test g s bs) h₂.1 in
       let h₄ = both (rises s) (furthest_test g s bs) h₃.1 in
-      let p₁ = both (cover_test g ts) (apart_test g s && eqb (length ts) (length s)) h₃.0 in
-      let p₂ = both (apart_test g s) (eqb (length ts) (length s)) p₁.1 in
+      let p₁ = both (cover_test g ts) (apart_test g s && eqb (length ts) (weight g s)) h₃.0 in
+      let p₂ = both (apart_test g s) (eqb (length ts) (weight g s)) p₁.1 in
       let ends : EndsBelow g = ends_right g h₁.0 in
       let cover : Cover g ts = cover_right g ts p₁.0 in
       let apart : Apart g s = apart_right g ends s p₂.0 in
-      let same : length ts ≡ length s = eqb→eq (length ts) (length s) p₂.1 in
+      let same : length ts ≡ weight g s = eqb→eq (length ts) (weight g s) p₂.1 in
       record {
         ends = ends;
         acyclic = acyclic_right g ends h₂.0;
         cover = cover;
         smallest = equal_smallest ts s apart same;
-        furthest = furthest_right g ends s bs apart (equal_largest ts s cover same) h₄.1;
+        furthest = furthest_right g ends s bs apart (equal_heaviest ts s cover same) h₄.1;
         rising = rises_right s h₄.0;
         same = same;
       }
@@ -407,9 +410,9 @@ module _ (g h : Graph) where
       && (each (λ l. linked g l.0 l.1 && not (implied g l.0 l.1)) h.links
       && each (λ l. implied g l.0 l.1 || linked h l.0 l.1) g.links)
 
-  pub trim_right : h.n ≡ g.n → T trim_test → Trimmed g h
+  pub trim_right : h.n ≡ g.n → ((v : ℕ) → Episode g v → h.voices v ≡ g.voices v) → T trim_test → Trimmed g h
   unfolding trim_test
-  trim_right episodes t = record { episodes = episodes; links = λ a b. (there_stays a b, stays_there a b) }
+  trim_right episodes voices t = record { episodes = episodes; voices = voices; links = λ a b. (there_stays a b, stays_there a b) }
     where
       stay : ℕ × ℕ → Bool
       stay l = linked g l.0 l.1 && not (implied g l.0 l.1)

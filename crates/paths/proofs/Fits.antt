@@ -1,5 +1,5 @@
--- Every report fits: a thread and an apart set share at most one episode, so c + k ≤ n + 1, and k threads have at most
--- k × (n + 1 - k) steps.
+-- Every report fits: a thread and an apart set share at most one episode, so a thread of c episodes and s members give c + s ≤ n + 1, and k threads
+-- have at most k × (n + 1 - s) steps.
 use mathlib.Core.Path.{◌≡◌, refl, subst}
 use mathlib.Core.Logic.{⊎_elim}
 use mathlib.Core.List.Memᴰ.{append_cases}
@@ -14,16 +14,18 @@ use mathlib.Core.List.{
 }
 use Prim.Native.Nat.{ℕ, suc, zero-le, ◌+◌, ◌-◌, ◌*◌, ◌/◌, ◌≤◌, ◌<◌}
 use native.Mathlib.Decide.{ℕ_discrete, dec_le}
-use native.Mathlib.Nat.{mul-add, add-mul, mul_comm, add_comm, suc-mul}
+use native.Mathlib.Nat.{mul-add, add-mul, mul_comm, add_comm, suc-mul, mul-le-mul_right}
 use native.Mathlib.Omega.{arith}
 use lib.ListN.{length, length-append}
 use Rattle.order.specs.Order.{All}
 use Rattle.order.proofs.Lists.{nodup_append, without, without_mem, length_without_one}
 use Rattle.order.proofs.Chains.{antichain_without, on_one_chain, chain_nodup}
-use Rattle.paths.specs.Graph.{Graph, Acyclic, Thread, Cover, Apart, total_steps}
+use Rattle.paths.specs.Graph.{Graph, Episode, Acyclic, Thread, Cover, Apart, weight, total_steps}
+use Rattle.paths.specs.OneVoice.{OneVoice}
 use Rattle.paths.proofs.Ways.{way_trans, way_order}
 use Rattle.paths.proofs.Threads.{thread_chain}
 use Rattle.paths.proofs.Numbers.{nodup_below}
+use Rattle.paths.proofs.OneVoice.{one_weight}
 
 -- 4ab ≤ (a + b)², with b written as a + d
 square_le : (a d : ℕ) → 4 * (a * (a + d)) ≤ (a + (a + d)) * (a + (a + d))
@@ -70,6 +72,18 @@ total_le c (t ∷ ts) h =
     let rest : total_steps ts ≤ length ts * c = total_le c ts (λ u m. h u (there m)) in
     rw (suc-mul (length ts) c) (omega arith)
 
+-- episodes of at most two voices have at most two for each
+pub weight_few : (g : Graph) (s : List ℕ) → ((v : ℕ) → Episode g v → g.voices v ≤ 2) → All (Episode g) s → weight g s ≤ length s + length s
+unfolding weight
+weight_few g [] few h = zero-le
+weight_few g (v ∷ s) few h = omega (arith, few v (h v (here refl)), weight_few g s few (λ x m. h x (there m)))
+
+-- with a voice or more each, episodes have at least as many voices as they are
+pub weight_some : (g : Graph) (s : List ℕ) → All (λ v. 1 ≤ g.voices v) s → length s ≤ weight g s
+unfolding weight
+weight_some g [] h = zero-le
+weight_some g (v ∷ s) h = omega (arith, h v (here refl), weight_some g s (λ x m. h x (there m)))
+
 module _ {g : Graph} (acyclic : Acyclic g) where
   -- the episodes of a thread are all different
   pub thread_nodup : {t : List ℕ} → Thread g t → Nodup t
@@ -96,13 +110,33 @@ module _ {g : Graph} (acyclic : Acyclic g) where
       below : All (λ v. v < g.n) (t ++ others)
       below v m = ⊎_elim (thread.episodes v) (λ n. apart.episodes v (without_mem ℕ_discrete t s n).0) (append_cases t m)
 
-  -- a report's words: the width, the apart set, for each thread its length and its steps, and the end
-  pub report_fits : (ts : List (List ℕ)) (s : List ℕ) → Cover g ts → Apart g s → length ts ≡ length s
+  -- so the threads of a cover and an apart set of s have at most n + 1 - s steps for each thread
+  steps_le : (ts : List (List ℕ)) (s : List ℕ) → Cover g ts → Apart g s → total_steps ts ≤ length ts * (g.n + 1 - length s)
+  steps_le ts s cover apart =
+      total_le (g.n + 1 - length s) ts
+      (λ t m. let c : length t + length s ≤ g.n + 1 = thread_apart_le t s (cover.threads t m) apart in omega arith)
+
+  -- a report's words, where every episode has one voice: the width, the apart set, for each thread its length and its steps, and the end
+  pub report_fits_one : (ts : List (List ℕ)) (s : List ℕ) → OneVoice g → Cover g ts → Apart g s → length ts ≡ weight g s
       → 1 + length s + (length ts + total_steps ts) + 1 ≤ 2 + 2 * g.n + (g.n + 1) * (g.n + 1) / 4
-  report_fits ts s cover apart same =
+  report_fits_one ts s voices cover apart same =
       let k : length s ≤ g.n = nodup_below g.n s apart.antichain.once apart.episodes in
-      let total : total_steps ts ≤ length ts * (g.n + 1 - length ts) =
-      total_le (g.n + 1 - length ts) ts
-      (λ t m. let c : length t + length s ≤ g.n + 1 = thread_apart_le t s (cover.threads t m) apart in omega arith) in
-      let quarter : length ts * (g.n + 1 - length ts) ≤ (g.n + 1) * (g.n + 1) / 4 = product_le (length ts) (g.n + 1) (omega arith) in
+      let one : weight g s ≡ length s = one_weight g voices s apart.episodes in
+      let equal : length ts ≡ length s = omega arith in
+      let total : total_steps ts ≤ length s * (g.n + 1 - length s) = rw equal at (steps_le ts s cover apart) in
+      let quarter : length s * (g.n + 1 - length s) ≤ (g.n + 1) * (g.n + 1) / 4 = product_le (length s) (g.n + 1) (omega arith) in
+      omega arith
+
+  -- and where none has more than two
+  pub report_fits_two : (ts : List (List ℕ)) (s : List ℕ) → ((v : ℕ) → Episode g v → g.voices v ≤ 2) → Cover g ts → Apart g s
+      → length ts ≡ weight g s → 1 + length s + (length ts + total_steps ts) + 1 ≤ 2 + 3 * g.n + 2 * ((g.n + 1) * (g.n + 1) / 4)
+  report_fits_two ts s voices cover apart same =
+      let k : length s ≤ g.n = nodup_below g.n s apart.antichain.once apart.episodes in
+      let two : weight g s ≤ length s + length s = weight_few g s voices apart.episodes in
+      let more : length ts * (g.n + 1 - length s) ≤ (length s + length s) * (g.n + 1 - length s) =
+      mul-le-mul_right (g.n + 1 - length s) (omega arith) in
+      let parts : (length s + length s) * (g.n + 1 - length s) ≡ length s * (g.n + 1 - length s) + length s * (g.n + 1 - length s) =
+      add-mul (length s) (length s) (g.n + 1 - length s) in
+      let total : total_steps ts ≤ length ts * (g.n + 1 - length s) = steps_le ts s cover apart in
+      let quarter : length s * (g.n + 1 - length s) ≤ (g.n + 1) * (g.n + 1) / 4 = product_le (length s) (g.n + 1) (omega arith) in
       omega arith

@@ -1,5 +1,5 @@
 -- One furthest: of two furthest apart sets each member of one is in the other, since a way there and a way back would join two
--- members of one set. And how a largest apart set is shown to be furthest.
+-- members of one set. And how a heaviest apart set is shown to be furthest.
 use mathlib.Core.Path.{◌≡◌, sym, subst}
 use mathlib.Core.Logic.{◌⊎◌, inl, inr, ⊎_elim}
 use mathlib.Core.List.Memᴰ
@@ -8,12 +8,11 @@ use Prim.Native.Nat.{ℕ, ◌≤◌, ◌<◌}
 use native.Mathlib.Decide.{ℕ_discrete}
 use native.Mathlib.Omega.{arith}
 use lib.ListN.{length}
-use Rattle.order.specs.Order.{All, On}
+use Rattle.order.specs.Order.{All}
 use Rattle.order.proofs.Lists.{find, dec_mem}
-use Rattle.order.proofs.Pigeonhole.{antichain_le_chains}
-use Rattle.paths.specs.Graph.{Graph, Episode, EndsBelow, Way, Acyclic, Thread, Apart, Largest, Along, Furthest, Rising}
+use Rattle.paths.specs.Graph.{Graph, Episode, EndsBelow, Way, Acyclic, Thread, Apart, Heaviest, Along, Furthest, Rising, passing_threads, weight}
 use Rattle.paths.proofs.Ways.{way_trans, dec_way}
-use Rattle.paths.proofs.Threads.{thread_chain}
+use Rattle.paths.proofs.Duality.{passed_weight}
 use Rattle.paths.proofs.Numbers.{rising_equal}
 
 module _ {g : Graph} (acyclic : Acyclic g) where
@@ -39,23 +38,23 @@ module _ {g : Graph} (acyclic : Acyclic g) where
 
   pub furthest_unique : (s r : List ℕ) → Furthest g s → Furthest g r → Rising s → Rising r → s ≡ r
   furthest_unique s r fs fr rs rr =
-      let r-s : Along g r s = fs.along r fr.apart fr.largest in
-      let s-r : Along g s r = fr.along s fs.apart fs.largest in
+      let r-s : Along g r s = fs.along r fr.apart fr.heaviest in
+      let s-r : Along g s r = fr.along s fs.apart fs.heaviest in
       rising_equal s r rs rr (along_members fs.apart r-s s-r) (along_members fr.apart s-r r-s)
 
--- Fewer threads than `s` has members hold every episode but `b` and those with a way to `b`.
+-- Fewer threads than `s` has voices, of which enough pass every episode but `b` and those with a way to `b`.
 pub record Behind (g : Graph) (s : List ℕ) (b : ℕ) : Type 0 where
   pub threads : List (List ℕ)
   pub are_threads : All (Thread g) threads
-  pub fewer : length threads < length s
-  pub hold : (v : ℕ) → Episode g v → (v ≡ b) ⊎ (Way g v b ⊎ On threads v)
+  pub fewer : length threads < weight g s
+  pub enough : (v : ℕ) → Episode g v → (v ≡ b) ⊎ (Way g v b ⊎ (g.voices v ≤ passing_threads v threads))
 
--- Where that is so for each member, a largest apart set is furthest: another with neither `b` nor an episode that has a way to `b`
--- is too small.
-pub furthest_by_threads : {g : Graph} {s : List ℕ} → EndsBelow g → Apart g s → Largest g s → All (Behind g s) s → Furthest g s
-furthest_by_threads {g} {s} ends apart largest behind = record { apart = apart; largest = largest; along = along }
+-- Where that is so for each member, a heaviest apart set is furthest: another with neither `b` nor an episode that has a way to `b`
+-- is too light.
+pub furthest_by_threads : {g : Graph} {s : List ℕ} → EndsBelow g → Apart g s → Heaviest g s → All (Behind g s) s → Furthest g s
+furthest_by_threads {g} {s} ends apart heaviest behind = record { apart = apart; heaviest = heaviest; along = along }
   where
-    along : (r : List ℕ) → Apart g r → Largest g r → Along g r s
+    along : (r : List ℕ) → Apart g r → Heaviest g r → Along g r s
     along r other most b m = go (dec_mem ℕ_discrete b r) (find (λ a. dec_way g ends a b) r)
       where
         Before : Type 0
@@ -66,14 +65,13 @@ furthest_by_threads {g} {s} ends apart largest behind = record { apart = apart; 
         go (no nb) (inl a) = inr a
         go (no nb) (inr none) =
             let q = behind b m in
-            let few : length q.threads < length s = q.fewer in
-            let many : length s ≤ length r = most s apart in
-            let weak : length r ≤ length q.threads =
-            antichain_le_chains ℕ_discrete way_trans q.threads r (λ t n. thread_chain (q.are_threads t n)) other.antichain held in
+            let few : length q.threads < weight g s = q.fewer in
+            let many : weight g s ≤ weight g r = most s apart in
+            let weak : weight g r ≤ length q.threads = passed_weight q.threads r q.are_threads other.antichain passed in
             let too_many : ⊥ = omega arith in
             absurd too_many
           where
-            held : All (On (behind b m).threads) r
-            held v n =
+            passed : All (λ v. g.voices v ≤ passing_threads v (behind b m).threads) r
+            passed v n =
                 ⊎_elim (λ e. absurd (nb (Memᴰ.cast (sym e) n))) (⊎_elim (λ w. absurd (none v n w)) (λ o. o))
-                ((behind b m).hold v (other.episodes v n))
+                ((behind b m).enough v (other.episodes v n))

@@ -3,6 +3,8 @@ pub mod Theorems
 pub mod Ways
 pub mod Threads
 pub mod Numbers
+pub mod Counting
+pub mod Items
 pub mod Passing
 pub mod Duality
 pub mod Furthest
@@ -12,4 +14,5 @@ pub mod Same
 pub mod Links
 pub mod Trimming
 pub mod Checker
+pub mod OneVoice
 pub mod Worked

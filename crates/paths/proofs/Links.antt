@@ -31,7 +31,7 @@ use Rattle.paths.specs.Graph.{Graph, Link, SameLinks}
 use Rattle.paths.specs.Links.{linked, distinct, link_count}
 
 -- what a test that is made of two tests says of them
-either : (x y : Bool) → x || y ≡ true → (x ≡ true) ⊎ (y ≡ true)
+pub either : (x y : Bool) → x || y ≡ true → (x ≡ true) ⊎ (y ≡ true)
 either true y e = inl refl
 either false y e = inr e
 

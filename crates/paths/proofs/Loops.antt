@@ -65,6 +65,10 @@ chain_next : {A : Type 0} {R : A → A → Type 0} (a : A) (p : List A) (x : A) 
 chain_next a [] x (more r c) = all_cons (x, r) (all_nil _)
 chain_next a (b ∷ p) x (more r c) = all_cons (b, r) (chain_next b p x c)
 
+-- what a link leaves is an episode
+walk_episodes : (g : Graph) → EndsBelow g → (a : ℕ) (p : List ℕ) (x : ℕ) → Chain (Link g) (a ∷ p ++ x ∷ []) → All (Episode g) (a ∷ p)
+walk_episodes g ends a p x c v m = let (y, l) = chain_next a p x c v m in (ends v y l).0
+
 module _ {g : Graph} where
   -- a walk leads from its first episode to its last
   pub walk_way : (a : ℕ) (p : List ℕ) (x : ℕ) → Chain (Link g) (a ∷ p ++ x ∷ []) → Way g a x
@@ -93,10 +97,6 @@ module _ {g : Graph} where
       links = chain_next o.first o.others o.first (rw o.parts at o.closed)
 
   module _ (ends : EndsBelow g) where
-    -- what a link leaves is an episode
-    walk_episodes : (a : ℕ) (p : List ℕ) (x : ℕ) → Chain (Link g) (a ∷ p ++ x ∷ []) → All (Episode g) (a ∷ p)
-    walk_episodes a p x c v m = let (y, l) = chain_next a p x c v m in (ends v y l).0
-
     -- the episodes of a walk are all different, or some of them are a loop
     walk_loop : {l : List ℕ} → Chain (Link g) l → Nodup l ⊎ ((c : List ℕ) × Loop g c)
     walk_loop single = inl (nodup_cons not-nil Pairwise.nil)
@@ -113,7 +113,7 @@ module _ {g : Graph} where
                 first = a;
                 others = q.part;
                 parts = refl;
-                episodes = walk_episodes a q.part a q.walk;
+                episodes = walk_episodes g ends a q.part a q.walk;
                 once = nodup_cons (q.new p) (q.once p);
                 closed = q.walk;
               },

@@ -1,10 +1,14 @@
--- Graphs with the same episodes and the same ways have the same apart sets and furthest sets. If they have the same set of links too,
+-- Graphs with the same episodes, voices and ways have the same apart sets and furthest sets. If they have the same set of links too,
 -- they have the same threads, covers and loops: the order and the repeats of links make no difference.
-use mathlib.Core.Path.{◌≡◌, sym, ◌∙◌}
+use mathlib.Core.Path.{◌≡◌, refl, sym, ap₂, ◌∙◌}
 use mathlib.Core.Logic.Iff
 use mathlib.Core.Logic.{inl, inr, ⊎_elim, ◌↔◌}
-use mathlib.Core.List.{List}
-use Prim.Native.Nat.{ℕ}
+use mathlib.Core.List.Memᴰ.{head as here}
+use mathlib.Core.List.Memᴰ.{tail as there}
+use mathlib.Core.List.{List, [], ◌∷◌}
+use Prim.Native.Nat.{ℕ, ◌+◌, ◌≤◌}
+use native.Mathlib.Omega.{arith}
+use Rattle.order.specs.Order.{All}
 use Rattle.order.proofs.Chains.{chain_map}
 use Rattle.paths.specs.Graph.{
   Graph,
@@ -17,29 +21,41 @@ use Rattle.paths.specs.Graph.{
   Cover,
   Apart,
   Smallest,
-  Largest,
+  Heaviest,
   Width,
   Along,
   Furthest,
   Loop,
+  weight,
 }
 use Rattle.paths.specs.Trimmed.{SameWays}
 use Rattle.paths.proofs.Ways.{way_map}
 
 -- What holds from one graph to another holds back; and the same ways carry on to a third.
 same_sym : {g h : Graph} → SameLinks g h → SameLinks h g
-same_sym s = record { episodes = sym s.episodes; links = λ a b. Iff.symm (s.links a b) }
+same_sym s =
+    record { episodes = sym s.episodes; voices = λ v p. sym (s.voices v (rw s.episodes p)); links = λ a b. Iff.symm (s.links a b) }
 
 pub ways_sym : {g h : Graph} → SameWays g h → SameWays h g
-ways_sym s = record { episodes = sym s.episodes; ways = λ a b. Iff.symm (s.ways a b) }
+ways_sym s =
+    record { episodes = sym s.episodes; voices = λ v p. sym (s.voices v (rw s.episodes p)); ways = λ a b. Iff.symm (s.ways a b) }
 
 pub ways_trans : {f g h : Graph} → SameWays f g → SameWays g h → SameWays f h
-ways_trans s t = record { episodes = s.episodes ∙ t.episodes; ways = λ a b. Iff.trans (s.ways a b) (t.ways a b) }
+ways_trans s t =
+    record {
+      episodes = s.episodes ∙ t.episodes;
+      voices = λ v p. s.voices v p ∙ t.voices v (rw (← s.episodes) p);
+      ways = λ a b. Iff.trans (s.ways a b) (t.ways a b);
+    }
 
 -- The same links have the same ways.
 pub links_ways : {g h : Graph} → SameLinks g h → SameWays g h
 links_ways s =
-    record { episodes = s.episodes; ways = λ a b. (way_map (λ x y. (s.links x y).0), way_map (λ x y. (s.links x y).1)) }
+    record {
+      episodes = s.episodes;
+      voices = s.voices;
+      ways = λ a b. (way_map (λ x y. (s.links x y).0), way_map (λ x y. (s.links x y).1));
+    }
 
 -- What one graph has the other has too, by its ways.
 module _ {g h : Graph} (s : SameWays g h) where
@@ -52,6 +68,12 @@ module _ {g h : Graph} (s : SameWays g h) where
   along : {r t : List ℕ} → Along g r t → Along h r t
   along p b m = ⊎_elim inl (λ q. inr (q.0, q.1, way q.2)) (p b m)
 
+-- Some episodes have as many voices together.
+pub same_weight : {g h : Graph} → SameWays g h → (r : List ℕ) → All (Episode g) r → weight g r ≡ weight h r
+unfolding weight
+same_weight s [] h = refl
+same_weight s (v ∷ r) h = ap₂ ◌+◌ (s.voices v (h v (here refl))) (same_weight s r (λ x m. h x (there m)))
+
 -- What asks something of every episode or way takes it back to the first graph.
 module _ {g h : Graph} (s : SameWays g h) where
   pub ways_acyclic : Acyclic g → Acyclic h
@@ -61,20 +83,25 @@ module _ {g h : Graph} (s : SameWays g h) where
   apart p =
       record {
         episodes = λ v m. episode s v (p.episodes v m);
+        voiced = λ v m. rw (← (s.voices v (p.episodes v m))) (p.voiced v m);
         antichain =
             record { once = p.antichain.once; apart = λ m n ne w. p.antichain.apart m n ne (way (ways_sym s) w) };
       }
 
 -- So does what asks something of every apart set.
-largest : {g h : Graph} → SameWays g h → (r : List ℕ) → Largest g r → Largest h r
-largest s r p t q = p t (apart (ways_sym s) q)
+heaviest : {g h : Graph} → SameWays g h → (r : List ℕ) → Apart g r → Heaviest g r → Heaviest h r
+heaviest {g} {h} s r a p t q =
+    let e : weight g r ≡ weight h r = same_weight s r a.episodes in
+    let f : weight h t ≡ weight g t = same_weight (ways_sym s) t q.episodes in
+    let le : weight g t ≤ weight g r = p t (apart (ways_sym s) q) in
+    omega arith
 
 furthest : {g h : Graph} → SameWays g h → {r : List ℕ} → Furthest g r → Furthest h r
 furthest s {r} f =
     record {
       apart = apart s f.apart;
-      largest = largest s r f.largest;
-      along = λ t p q. along s (f.along t (apart (ways_sym s) p) (largest (ways_sym s) t q));
+      heaviest = heaviest s r f.apart f.heaviest;
+      along = λ t p q. along s (f.along t (apart (ways_sym s) p) (heaviest (ways_sym s) t p q));
     }
 
 -- Both directions at once.
@@ -85,13 +112,17 @@ module _ {g h : Graph} (s : SameWays g h) where
   pub ways_furthest : (r : List ℕ) → Furthest g r ↔ Furthest h r
   ways_furthest r = (furthest s, furthest (ways_sym s))
 
--- A graph with the same episodes and all links of another has its threads and covers.
+-- A graph with the same episodes and all links of another has its threads, and, where no episode has more voices, its covers.
 module _ {g h : Graph} (episodes : g.n ≡ h.n) (link : (a b : ℕ) → Link g a b → Link h a b) where
   thread : {t : List ℕ} → Thread g t → Thread h t
   thread t = record { episodes = λ v m. rw (← episodes) (t.episodes v m); path = chain_map link t.path }
 
-  pub more_cover : {ts : List (List ℕ)} → Cover g ts → Cover h ts
-  more_cover c = record { threads = λ t m. thread (c.threads t m); whole = λ v p. c.whole v (rw episodes p) }
+  pub more_cover : ((v : ℕ) → Episode g v → h.voices v ≤ g.voices v) → {ts : List (List ℕ)} → Cover g ts → Cover h ts
+  more_cover voices c =
+      record {
+        threads = λ t m. thread (c.threads t m);
+        enough = λ v p. let q : Episode g v = rw episodes p in omega (arith, voices v q, c.enough v q);
+      }
 
 -- What one graph has the other has too, by its links.
 module _ {g h : Graph} (s : SameLinks g h) where
@@ -99,7 +130,7 @@ module _ {g h : Graph} (s : SameLinks g h) where
   link a b = (s.links a b).0
 
   cover : {ts : List (List ℕ)} → Cover g ts → Cover h ts
-  cover = more_cover s.episodes link
+  cover = more_cover s.episodes link (λ v q. omega (arith, s.voices v q))
 
   loop : {c : List ℕ} → Loop g c → Loop h c
   loop o =

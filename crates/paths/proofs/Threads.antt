@@ -1,9 +1,6 @@
 -- Threads and chains of ways: a thread is one, and one becomes a thread that holds its episodes when each way is filled in.
-use mathlib.Core.Path.{◌≡◌, refl, ap, subst}
-use mathlib.Core.Logic.{⊎_elim}
-use mathlib.Core.List.Memᴰ.{cases_cons as mem-cases}
+use mathlib.Core.Path.{refl}
 use mathlib.Core.List.Memᴰ.{head as here}
-use mathlib.Core.List.Memᴰ.{not-nil}
 use mathlib.Core.List.Memᴰ.{tail as there}
 use mathlib.Core.List.{
   List,
@@ -11,19 +8,11 @@ use mathlib.Core.List.{
   ◌∷◌,
   Memᴰ as Mem,
 }
-use Prim.Native.Nat.{ℕ, suc}
-use lib.ListN.{length}
-use Rattle.order.specs.Order.{All, On, Chain, single, more}
-use Rattle.order.proofs.Lists.{all_nil, all_cons, on_there}
-use Rattle.order.proofs.Chains.{chain_map, not_empty}
+use Prim.Native.Nat.{ℕ}
+use Rattle.order.specs.Order.{All, Chain, single, more}
+use Rattle.order.proofs.Lists.{all_nil, all_cons}
+use Rattle.order.proofs.Chains.{chain_map}
 use Rattle.paths.specs.Graph.{Graph, Episode, Link, EndsBelow, Way, one, step, Thread}
-
--- as many threads as chains, which hold what the chains hold
-pub record Filled (g : Graph) (cs : List (List ℕ)) : Type 0 where
-  pub threads : List (List ℕ)
-  pub same : length threads ≡ length cs
-  pub are_threads : All (Thread g) threads
-  pub hold : (v : ℕ) → On cs v → On threads v
 
 module _ {g : Graph} where
   pub thread_chain : {t : List ℕ} → Thread g t → Chain (Way g) t
@@ -52,26 +41,3 @@ module _ {g : Graph} where
         let r = chain_thread c (λ v m. h v (there m)) in
         let s = way_thread w r.1 in
         (s.0, s.1, all_cons (here refl) (λ v m. there (s.2 v (r.2 v m))))
-
-    pub chains_threads : (cs : List (List ℕ)) → All (Chain (Way g)) cs → All (All (Episode g)) cs → Filled g cs
-    chains_threads [] chains h =
-        record { threads = []; same = refl; are_threads = all_nil _; hold = λ v o. absurd (not-nil o.1) }
-    chains_threads ([] ∷ cs) chains h = absurd (not_empty (chains [] (here refl)))
-    chains_threads ((a ∷ l) ∷ cs) chains h =
-        go (chain_thread (chains (a ∷ l) (here refl)) (h (a ∷ l) (here refl)))
-        (chains_threads cs (λ c m. chains c (there m)) (λ c m. h c (there m)))
-      where
-        go : (m : List ℕ) × Thread g (a ∷ m) × All (λ v. Mem v (a ∷ m)) (a ∷ l) → Filled g cs → Filled g ((a ∷ l) ∷ cs)
-        go (m, th, all) r =
-            record {
-              threads = (a ∷ m) ∷ r.threads;
-              same = ap suc r.same;
-              are_threads = all_cons th r.are_threads;
-              hold = hold;
-            }
-          where
-            hold : (v : ℕ) → On ((a ∷ l) ∷ cs) v → On ((a ∷ m) ∷ r.threads) v
-            hold v (c, q, vc) =
-                ⊎_elim (λ e. (a ∷ m, here refl, all v (subst (λ (k : List ℕ). Mem v k) e vc)))
-                (λ n. on_there (r.hold v (c, n, vc)))
-                (mem-cases q)

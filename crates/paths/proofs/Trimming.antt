@@ -21,14 +21,14 @@ use lib.ListN.{length}
 use Rattle.order.specs.Order.{All, Chain, single, more}
 use Rattle.order.proofs.Lists.{all_cons, find, filter_sound, filter_complete, filter_nodup, nodup_cons, nodup_le}
 use Rattle.order.proofs.Chains.{chain_map}
-use Rattle.paths.specs.Graph.{Graph, Episode, Link, EndsBelow, SameLinks, Way, one, step, Acyclic, Thread, Width}
+use Rattle.paths.specs.Graph.{Graph, Episode, Link, EndsBelow, SameLinks, Way, one, step, Acyclic, Thread, Width, weight}
 use Rattle.paths.specs.Trimmed.{SameWays, Stays, Trimmed, Implied}
 use Rattle.paths.proofs.Ways.{way_trans, way_last, way_map, dec_link, dec_way}
 use Rattle.paths.proofs.Threads.{thread_single, thread_cons}
 use Rattle.paths.proofs.Loops.{walk_way}
 use Rattle.paths.proofs.Numbers.{below, lt_below, below_nodup}
 use Rattle.paths.proofs.Duality.{weak_duality, equal_smallest, certificate}
-use Rattle.paths.proofs.Same.{ways_sym, ways_acyclic, ways_apart}
+use Rattle.paths.proofs.Same.{ways_sym, ways_acyclic, ways_apart, same_weight}
 
 -- two ways that meet lead on by a link and a way
 pub meet_implied : {g : Graph} {a c b : ℕ} → Way g a c → Way g c b → Implied g a b
@@ -46,7 +46,7 @@ module _ (g : Graph) where
   below_both l = Dec.and (dec_lt l.0 g.n) (dec_lt l.1 g.n)
 
   inner : Graph
-  inner = record { n = g.n; links = filter below_both g.links }
+  inner = record { n = g.n; links = filter below_both g.links; voices = g.voices }
 
   inner_link : {a b : ℕ} → Link inner a b → Link g a b
   unfolding inner
@@ -177,6 +177,7 @@ module _ {g h : Graph} (ends : EndsBelow g) (acyclic : Acyclic g) (t : Trimmed g
   trimmed_ways =
       record {
         episodes = sym t.episodes;
+        voices = λ v p. sym (t.voices v p);
         ways = λ a b. (way_kept (suc (length (inside a b))) a b (omega arith), way_map (λ x y l. ((t.links x y).0 l).link));
       }
 
@@ -197,9 +198,12 @@ module _ {g h : Graph} (ends : EndsBelow g) (s : SameWays g h) where
 
 -- So graphs with the same ways, trimmed, have the same links.
 pub ways_trimmed : {g h g' h' : Graph} → EndsBelow g → EndsBelow h → SameWays g h → Trimmed g g' → Trimmed h h' → SameLinks g' h'
-ways_trimmed ge he s t u =
+ways_trimmed {g} {h} ge he s t u =
     record {
       episodes = t.episodes ∙ s.episodes ∙ sym u.episodes;
+      voices = λ v p.
+          let q : Episode g v = rw (← t.episodes) p in
+          t.voices v q ∙ s.voices v q ∙ sym (u.voices v (rw (← s.episodes) q));
       links = λ a b. (
         λ l. (u.links a b).1 (stays_stays ge s he ((t.links a b).0 l)),
         λ l. (t.links a b).1 (stays_stays he (ways_sym s) ge ((u.links a b).0 l)),
@@ -214,15 +218,17 @@ module _ {g h : Graph} (t : Trimmed g h) where
   pub trimmed_ends : EndsBelow g → EndsBelow h
   trimmed_ends ends a b l = let e = ends a b (trimmed_link a b l) in (rw t.episodes e.0, rw t.episodes e.1)
 
--- The width goes by the ways, in acyclic graphs: it is the size of a largest apart set.
+-- The width goes by the ways, in acyclic graphs: it is the weight of a heaviest apart set.
 module _ {g h : Graph} (ge : EndsBelow g) (he : EndsBelow h) (acyclic : Acyclic g) (s : SameWays g h) where
   width_there : {k : ℕ} → Width g k → Width h k
   width_there (ts, cover, smallest, size) =
       let c = certificate ge acyclic in
       let d = certificate he (ways_acyclic s acyclic) in
       let few : length ts ≤ length c.threads = smallest c.threads c.is_cover in
-      let over : length c.apart ≤ length d.threads = weak_duality d.threads c.apart d.is_cover ((ways_apart s c.apart).0 c.is_apart) in
-      let back : length d.apart ≤ length ts = weak_duality ts d.apart cover ((ways_apart s d.apart).1 d.is_apart) in
+      let over : weight h c.apart ≤ length d.threads = weak_duality d.threads c.apart d.is_cover ((ways_apart s c.apart).0 c.is_apart) in
+      let back : weight g d.apart ≤ length ts = weak_duality ts d.apart cover ((ways_apart s d.apart).1 d.is_apart) in
+      let first : weight g c.apart ≡ weight h c.apart = same_weight s c.apart c.is_apart.episodes in
+      let last : weight h d.apart ≡ weight g d.apart = same_weight (ways_sym s) d.apart d.is_apart.episodes in
       (d.threads, d.is_cover, equal_smallest d.threads d.apart d.is_apart d.same, omega (arith, c.same, d.same))
 
 pub ways_width : {g h : Graph} → EndsBelow g → EndsBelow h → Acyclic g → SameWays g h → (k : ℕ) → Width g k ↔ Width h k

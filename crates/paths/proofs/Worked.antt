@@ -1,16 +1,16 @@
 -- The worked graphs of the scope, and its false readings, each shown not to meet the definitions.
 use mathlib.Core.Path.{◌≡◌, refl, ap}
 use mathlib.Core.Logic.{◌⊎◌, inl, inr, ⊎_elim}
-use mathlib.Core.Bool.{Bool}
+use mathlib.Core.Bool.{Bool, true, false}
 use mathlib.Core.List.Memᴰ.{head as here}
 use mathlib.Core.List.Memᴰ.{tail as there}
 use mathlib.Core.List.{List, [], ◌∷◌}
 use Prim.Native.Nat.{ℕ, ◌≤◌, ◌<◌}
 use native.Mathlib.Omega.{arith}
-use lib.Dec.{T, ltb, ltb→lt}
+use lib.Dec.{T, eqb, ltb, ltb→lt}
 use lib.ListN.{length}
 use Rattle.order.specs.Order.{All, Chain, more}
-use Rattle.paths.specs.Graph.{Graph, Link, one, step, Thread, Apart, Cover, Smallest, Furthest, Loop}
+use Rattle.paths.specs.Graph.{Graph, Link, one, step, Thread, Apart, Cover, Smallest, Heaviest, Furthest, Loop, member, passing_threads, weight}
 use Rattle.paths.specs.Links.{link_count, distinct}
 use Rattle.paths.specs.Links as links
 use Rattle.paths.specs.Trimmed.{Stays, Trimmed}
@@ -31,6 +31,10 @@ use Rattle.paths.proofs.Checker.{
   loop_right,
   cover_test,
   cover_right,
+  ends_test,
+  ends_right,
+  apart_test,
+  apart_right,
 }
 
 -- A graph, a smallest cover, its furthest apart set, and for each member of it threads, fewer than the members, that hold every
@@ -41,8 +45,18 @@ pub record Row : Type 0 where
   pub apart : List ℕ
   pub behind : List (List (List ℕ))
 
+-- one voice for each episode
 abbrev pub graph : ℕ → List (ℕ × ℕ) → Graph
-graph n links = record { n = n; links = links }
+graph n links = record { n = n; links = links; voices = λ _. 1 }
+
+-- the voices that a mark gives `v`, 1 without one; a mark is an episode and its voices
+unfoldable pub marked_voices : List (ℕ × ℕ) → ℕ → ℕ
+marked_voices [] v = 1
+marked_voices (m ∷ ms) v = elim (eqb v m.0) [ true ↦ m.1 | false ↦ marked_voices ms v ]
+
+-- the voices that the marks give
+abbrev pub marked : ℕ → List (ℕ × ℕ) → List (ℕ × ℕ) → Graph
+marked n links marks = record { n = n; links = links; voices = marked_voices marks }
 
 abbrev pub whole : Graph
 whole = graph 5 ((0, 1) ∷ (2, 3) ∷ [])
@@ -100,6 +114,92 @@ pub worked : All (λ r. Settled r.graph r.threads r.apart) rows
 unfolding row_test
 worked r m = settled_right r.graph r.threads r.apart r.behind (each_right row_test rows rows_pass r m)
 
+-- 0-2, 1-2, 2-3, 2-4, 2-5 with duets 0 and 1
+abbrev pub duets : Graph
+duets = marked 6 ((0, 2) ∷ (1, 2) ∷ (2, 3) ∷ (2, 4) ∷ (2, 5) ∷ []) ((0, 2) ∷ (1, 2) ∷ [])
+
+abbrev pub duets_row : Row
+duets_row =
+    record {
+      graph = duets;
+      threads = (0 ∷ 2 ∷ 3 ∷ []) ∷ (0 ∷ 2 ∷ 4 ∷ []) ∷ (1 ∷ 2 ∷ 5 ∷ []) ∷ (1 ∷ []) ∷ [];
+      apart = 0 ∷ 1 ∷ [];
+      behind =
+          ((1 ∷ 2 ∷ 3 ∷ []) ∷ (1 ∷ 2 ∷ 4 ∷ []) ∷ (5 ∷ []) ∷ []) ∷ ((0 ∷ 2 ∷ 3 ∷ []) ∷ (0 ∷ 2 ∷ 4 ∷ []) ∷ (5 ∷ []) ∷ []) ∷ [];
+    }
+
+-- one episode, a duet
+abbrev pub duet : Graph
+duet = marked 1 [] ((0, 2) ∷ [])
+
+-- one episode, a door
+abbrev pub door : Graph
+door = marked 1 [] ((0, 0) ∷ [])
+
+-- rows with duets and doors
+abbrev pub voiced_rows : List Row
+voiced_rows =
+    record { graph = door; threads = []; apart = []; behind = [] }
+    ∷ record { graph = duet; threads = (0 ∷ []) ∷ (0 ∷ []) ∷ []; apart = 0 ∷ []; behind = [] ∷ [] }
+    -- 0-1 with voices 2 and 1, 1 and 2, 0 and 2
+    ∷ record {
+      graph = marked 2 ((0, 1) ∷ []) ((0, 2) ∷ []);
+      threads = (0 ∷ 1 ∷ []) ∷ (0 ∷ []) ∷ [];
+      apart = 0 ∷ [];
+      behind = ((1 ∷ []) ∷ []) ∷ [];
+    }
+    ∷ record {
+      graph = marked 2 ((0, 1) ∷ []) ((1, 2) ∷ []);
+      threads = (0 ∷ 1 ∷ []) ∷ (1 ∷ []) ∷ [];
+      apart = 1 ∷ [];
+      behind = [] ∷ [];
+    }
+    ∷ record {
+      graph = marked 2 ((0, 1) ∷ []) ((1, 2) ∷ (0, 0) ∷ []);
+      threads = (0 ∷ 1 ∷ []) ∷ (1 ∷ []) ∷ [];
+      apart = 1 ∷ [];
+      behind = [] ∷ [];
+    }
+    -- two heaviest sets, 0 and 1, of which 1 is further along
+    ∷ record {
+      graph = marked 2 ((0, 1) ∷ []) ((0, 2) ∷ (1, 2) ∷ []);
+      threads = (0 ∷ 1 ∷ []) ∷ (0 ∷ 1 ∷ []) ∷ [];
+      apart = 1 ∷ [];
+      behind = [] ∷ [];
+    }
+    -- and 0 and 1 2, of which 1 2 is
+    ∷ record {
+      graph = marked 3 ((0, 1) ∷ (0, 2) ∷ []) ((0, 2) ∷ []);
+      threads = (0 ∷ 1 ∷ []) ∷ (0 ∷ 2 ∷ []) ∷ [];
+      apart = 1 ∷ 2 ∷ [];
+      behind = ((2 ∷ []) ∷ []) ∷ ((1 ∷ []) ∷ []) ∷ [];
+    }
+    -- all doors
+    ∷ record {
+      graph = marked 3 ((0, 1) ∷ (1, 2) ∷ []) ((0, 0) ∷ (1, 0) ∷ (2, 0) ∷ []);
+      threads = [];
+      apart = [];
+      behind = [];
+    }
+    -- a thread passes a door between two others, which no link joins
+    ∷ record {
+      graph = marked 3 ((0, 1) ∷ (1, 2) ∷ []) ((1, 0) ∷ []);
+      threads = (0 ∷ 1 ∷ 2 ∷ []) ∷ [];
+      apart = 2 ∷ [];
+      behind = [] ∷ [];
+    }
+    ∷ duets_row
+    ∷ []
+
+voiced_rows_pass : T (each row_test voiced_rows)
+unfolding each row_test settled_test marked_voices
+voiced_rows_pass = tt
+
+-- the loop-free graphs with duets and doors that are worked through
+pub worked_voices : All (λ r. Settled r.graph r.threads r.apart) voiced_rows
+unfolding row_test
+worked_voices r m = settled_right r.graph r.threads r.apart r.behind (each_right row_test voiced_rows voiced_rows_pass r m)
+
 -- a graph and a loop of it
 pub record LoopRow : Type 0 where
   pub graph : Graph
@@ -139,6 +239,26 @@ unfolding cover_test
 threads_may_share =
     let two : List (List ℕ) = (0 ∷ 2 ∷ 3 ∷ []) ∷ (1 ∷ 2 ∷ 4 ∷ []) ∷ [] in
     (cover_right crossing unshared tt, larger_cover unshared two (cover_right crossing two tt) tt)
+
+-- one thread for a duet: it wants two
+pub duet_wants_two : Cover duet ((0 ∷ []) ∷ []) → ⊥
+unfolding passing_threads member marked_voices
+duet_wants_two cover = let h : 2 ≤ 1 = cover.enough 0 (omega arith) in omega arith
+
+-- a door in an apart set: a member has voices
+pub door_is_no_member : Apart door (0 ∷ []) → ⊥
+unfolding marked_voices
+door_is_no_member apart = let h : 1 ≤ 0 = apart.voiced 0 (here refl) in omega arith
+
+-- the apart set with most members instead of the heaviest: 3 4 5 has more members than 0 1, and fewer voices
+pub heaviest_is_not_most : Apart duets (3 ∷ 4 ∷ 5 ∷ []) × (Heaviest duets (3 ∷ 4 ∷ 5 ∷ []) → ⊥)
+unfolding apart_test ends_test weight marked_voices
+heaviest_is_not_most = (
+  apart_right duets (ends_right duets tt) (3 ∷ 4 ∷ 5 ∷ []) tt,
+  λ heaviest.
+      let h : 4 ≤ 3 = heaviest (0 ∷ 1 ∷ []) (apart_right duets (ends_right duets tt) (0 ∷ 1 ∷ []) tt) in
+      omega arith,
+)
 
 -- threads that skip along ways: 0 2 is no thread along 0-1, 1-2
 pub threads_do_not_skip : Thread line (0 ∷ 2 ∷ []) → ⊥
@@ -199,7 +319,7 @@ trim_rows =
     ∷ []
 
 abbrev row_trimmed : TrimRow → Graph
-row_trimmed r = graph r.graph.n r.stay
+row_trimmed r = record { n = r.graph.n; links = r.stay; voices = r.graph.voices }
 
 trim_row_test : TrimRow → Bool
 trim_row_test r = trim_test r.graph (row_trimmed r)
@@ -212,7 +332,7 @@ trim_rows_pass = tt
 -- a link beside three others goes
 pub worked_trims : All (λ r. Trimmed r.graph (row_trimmed r)) trim_rows
 unfolding trim_row_test
-worked_trims r m = trim_right r.graph (row_trimmed r) refl (each_right trim_row_test trim_rows trim_rows_pass r m)
+worked_trims r m = trim_right r.graph (row_trimmed r) refl (λ v p. refl) (each_right trim_row_test trim_rows trim_rows_pass r m)
 
 -- "no other path" as "no path of two links": there is none beside 0-3 in the last of them, but 0-3 does not stay
 pub longer_paths_count : ((c : ℕ) → Link detour 0 c → Link detour c 3 → ⊥) × (Stays detour 0 3 → ⊥)

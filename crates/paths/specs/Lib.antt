@@ -1,5 +1,7 @@
--- Directed graphs on the episodes 0 to n - 1, and the numbers that pass a test.
+-- Directed graphs on the episodes 0 to n - 1, each with its voices, and the numbers that pass a test.
 pub mod Graph
+pub mod Items
+pub mod OneVoice
 pub mod Links
 pub mod Closure
 pub mod Trimmed

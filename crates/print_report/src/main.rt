@@ -15,7 +15,7 @@ struct Passed<'a> {
     links: usize,
 }
 
-// Asks questions 14 and 15 of the bytes and 1 to 10 and 18 of their words, which stand in `words` then, and counts the links.
+// Asks questions 14 and 15 of the bytes and 1 to 10 and 18 to 21 of their words, which stand in `words` then, and counts the links.
 fn asked<'a>(bytes: &[u8], words: &'a mut [u32]) -> Result<Passed<'a>, Refusal> {
     let count = input::words_of(bytes, words)?;
     let log = &words[..count];

@@ -1,6 +1,6 @@
 -- All that a call on a written-out graph can show, as lists that compute: the covers beside a given apart set, and the loops. Each list
 -- comes with the lemma that nothing is missing from it.
-use mathlib.Core.Path.{◌≡◌, refl, subst}
+use mathlib.Core.Path.{◌≡◌, refl, sym, subst, ◌∙◌}
 use mathlib.Core.Bool.{Bool, true, false, ◌&&◌}
 use mathlib.Core.Logic.{⊎_elim}
 use mathlib.Core.List.Memᴰ
@@ -22,10 +22,11 @@ use native.Mathlib.Omega.{arith}
 use lib.Dec.{T, leb, le→leb}
 use lib.ListN.{length, get_or}
 use Rattle.order.specs.Order.{All, Chain, single, more}
-use Rattle.paths.specs.Graph.{Graph, Link, Thread}
-use Rattle.paths.proofs.Theorems.{different_below, thread_different}
+use Rattle.paths.specs.Graph.{Graph, Link, Thread, member, passing_threads}
+use Rattle.paths.specs.Items.{by_voices}
+use Rattle.paths.proofs.Theorems.{different_below, thread_different, by_voices_length}
 use Rattle.paths.proofs.Numbers.{below, below_lt, lt_below}
-use Rattle.paths.proofs.Checker.{pair, each, some, some_all, member, member_all, chained, linked, linked_all}
+use Rattle.paths.proofs.Checker.{pair, each, member_all, chained, linked, linked_all}
 use Rattle.report.specs.Report.{Reported, LoopShown}
 
 module _ {A : Type 0} where
@@ -119,13 +120,13 @@ module _ (g : Graph) where
   chain_listed h single s = walk_listed h single s
   chain_listed h (more r c) s = walk_listed h (more r c) s
 
-  -- the ways to take for each member of `s` a thread that holds it
+  -- the ways to take for each of the episodes `s` a thread that holds it
   unfoldable pub holding : List ℕ → List (List (List ℕ))
   unfolding all_walks keep member flat_map
   holding [] = [] ∷ []
   holding (a ∷ s) = flat_map (λ t. map (λ ts. t ∷ ts) (holding s)) (keep (member a) all_walks)
 
-  -- threads that hold the members one by one are such a way
+  -- threads that hold them one by one are such a way
   holding_all : (s : List ℕ) (ts : List (List ℕ)) → length ts ≡ length s → All (λ t. Mem t all_walks) ts
       → ((i : ℕ) → i < length s → Mem (get_or s i 0) (get_or ts i [])) → Mem ts (holding s)
   unfolding holding
@@ -138,23 +139,27 @@ module _ (g : Graph) where
       (Memᴰ.map (λ (ts : List (List ℕ)). t ∷ ts)
       (holding_all s ts (omega arith) (λ u m. w u (there m)) (λ i lt. h (suc i) (omega arith))))
 
-  -- every episode is on one of the threads
-  whole_test : List (List ℕ) → Bool
-  whole_test ts = each (λ v. some (member v) ts) (below g.n)
+  -- enough of the threads pass every episode
+  enough_test : List (List ℕ) → Bool
+  enough_test ts = each (λ v. leb (g.voices v) (passing_threads v ts)) (below g.n)
 
   -- the covers that a report with the apart set `s` can show
   unfoldable pub covers : List ℕ → List (List (List ℕ))
-  unfolding keep whole_test each some member below holding
-  covers s = keep whole_test (holding s)
+  unfolding keep enough_test each passing_threads below holding by_voices
+  covers s = keep enough_test (holding (by_voices g.voices s))
 
   -- every cover of a report is one of them
   pub covers_all : (s : List ℕ) (ts : List (List ℕ)) → Reported g s ts → Mem ts (covers s)
-  unfolding covers whole_test
+  unfolding covers enough_test
   covers_all s ts r =
-      keep_all whole_test (holding s) (holding_all s ts r.paired.same (λ t m. listed t (r.cover.threads t m)) r.paired.holds)
-      (each_all (λ v. some (member v) ts) (below g.n)
-      (λ v m. let (t, i, k) = r.cover.whole v (below_lt g.n v m) in some_all (member v) ts i (member_all v t k)))
+      keep_all enough_test (holding (by_voices g.voices s))
+      (holding_all (by_voices g.voices s) ts as_many (λ t m. listed t (r.cover.threads t m)) (λ i lt. r.paired.holds i (omega (arith, as_many))))
+      (each_all (λ v. leb (g.voices v) (passing_threads v ts)) (below g.n)
+      (λ v m. le→leb (g.voices v) (passing_threads v ts) (r.cover.enough v (below_lt g.n v m))))
     where
+      as_many : length ts ≡ length (by_voices g.voices s)
+      as_many = r.paired.same ∙ sym (by_voices_length g s)
+
       listed : (t : List ℕ) → Thread g t → Mem t all_walks
       listed t thread =
           chain_listed thread.episodes thread.path

@@ -8,15 +8,17 @@ use mathlib.Core.List.{List, [], ◌++◌, map, Memᴰ as Mem, Nodup, IsChain}
 use Prim.Native.Nat.{ℕ, ◌≤◌, ◌<◌}
 use native.Mathlib.Omega.{arith}
 use lib.ListN.{length, take, drop, get_or}
-use Rattle.order.specs.Order.{All}
-use Rattle.paths.specs.Graph.{Graph, Link, SameLinks, Way, Cover, Apart, Smallest, Largest, Width, Furthest, Rising, Loop}
+use Rattle.order.specs.Order.{All, HoldsOne}
+use Rattle.paths.specs.Graph.{Graph, Episode, Link, SameLinks, Way, passing_threads, Cover, Apart, weight, Smallest, Heaviest, Width, Furthest, Rising, Loop}
 use Rattle.paths.specs.Links.{link_count}
 use Rattle.paths.specs.Trimmed.{SameWays, Stays}
+use Rattle.paths.specs.OneVoice.{OneVoice}
+use Rattle.paths.specs.OneVoice as one
 use Rattle.paths.proofs.Theorems as graphs
 use Rattle.logs.specs.Words.{kind, number, word}
 use Rattle.logs.specs.Answer.{given, refused}
 use Rattle.logs.specs.Content.{heard_graph, HeardOf, LeastPause, SameContent, longest_pause}
-use Rattle.logs.specs.Log.{questions, heard_from, content_of, graph_of, heard_count, without_pauses}
+use Rattle.logs.specs.Log.{questions, marks_of, voices_by, heard_from, content_of, graph_of, heard_count, voices_count, without_pauses}
 use Rattle.logs.specs.Earlier.{Older}
 use Rattle.logs.specs.Earlier as earlier
 use Rattle.std.specs.Prelude.{Result}
@@ -27,7 +29,7 @@ use Rattle.logs.proofs.Laws.{links_below, heard_count_words, heard_links_count}
 use Rattle.logs.proofs.Laws as laws
 use Rattle.logs.proofs.Counts.{same_links, counted_heard, count_at_most, count_whole, whole_where_count, old_graph, short_graph}
 use Rattle.logs.proofs.Counts as versions
-use Rattle.logs.proofs.Unpaused.{questions_unpaused, graph_unpaused, count_unpaused}
+use Rattle.logs.proofs.Unpaused.{questions_unpaused, graph_unpaused, count_unpaused, voices_count_unpaused}
 use Rattle.logs.proofs.Older.{version_older, questions_older, graph_older, no_pause_lem}
 use Rattle.link_count.specs.Counted.{count_answer, count_asked}
 use Rattle.writing.specs.Layout.{report_words, loop_words, report_need, apart_of, threads_of, BeginsWith}
@@ -39,7 +41,7 @@ use Rattle.copying.proofs.FairCopies as fair
 use Rattle.copying.proofs.Older.{copy_earlier, fair_older, older_same}
 use Rattle.trimming.specs.TrimmedCopy.{trimmed, trimmed_words}
 use Rattle.trimming.proofs.TrimmedCopies as trimming
-use Rattle.report.specs.Report.{outcome_answer, asked, cleared, Paired, Reported, LoopShown, Passes, Left}
+use Rattle.report.specs.Report.{outcome_answer, asked, report_needs, cleared, Paired, Reported, LoopShown, Passes, Left}
 use Rattle.report.specs.Accepted.{Accepted, LentEnough}
 use Rattle.report.specs.declared.Outcome.{Outcome}
 use Rattle.fair_copy.specs.Copied.{copy_answer, copy_asked, CopyLeft}
@@ -48,32 +50,32 @@ use Rattle.trimmed_copy.specs.Trimmed.{trim_answer, TrimPasses, TrimLeft}
 use Rattle.trimmed_copy.proofs.Trimmed as trims
 use Rattle.promises.proofs.ThreadsLeft as threads
 use Rattle.promises.proofs.SmallLogs as small
-use Rattle.promises.proofs.SmallLogs.{Right, rows, version_rows}
+use Rattle.promises.proofs.SmallLogs.{Right, rows, version_rows, voices_rows}
 use Rattle.report.proofs.Reported as calls
 use Rattle.report.proofs.Reported.{accepted_ends, accepted_acyclic, accepted_passes, passes_enough}
 
 -- 1. Of every accepted log.
 module _ (m : Ceilings) (l : List ℕ) (accepted : Accepted m l) where
-  -- Duality: a cover and an apart set have equal numbers exactly when no cover has fewer threads and no apart set more members.
+  -- Duality: a cover has as many threads as an apart set has voices exactly when no cover has fewer threads and no apart set more voices.
   pub duality : (ts : List (List ℕ)) (s : List ℕ) → Cover (graph_of l) ts → Apart (graph_of l) s
-      → (length ts ≡ length s) ↔ (Smallest (graph_of l) ts × Largest (graph_of l) s)
+      → (length ts ≡ weight (graph_of l) s) ↔ (Smallest (graph_of l) ts × Heaviest (graph_of l) s)
   duality = graphs.duality (graph_of l) (accepted_ends m l accepted) (accepted_acyclic m l accepted)
 
-  -- The width is there, it is one number, and it is the size of the largest apart set.
+  -- The width is there, it is one number, and it is the voices of the heaviest apart set together.
   pub width : (k : ℕ) × Width (graph_of l) k
       × ((j : ℕ) → Width (graph_of l) j → j ≡ k)
-      × ((s : List ℕ) × Apart (graph_of l) s × Largest (graph_of l) s × (length s ≡ k))
+      × ((s : List ℕ) × Apart (graph_of l) s × Heaviest (graph_of l) s × (weight (graph_of l) s ≡ k))
   width = calls.width_and_apart (graph_of l) (accepted_ends m l accepted) (accepted_acyclic m l accepted)
 
 -- 2. Of every report call.
 module _ (m : Ceilings) (l o w o' w' : List ℕ) (r : Outcome) (left : Left m l o w o' w' r) where
   -- An accepted log whose lent buffers pass questions 11 and 12 gets a report. Its threads are a cover, its apart set is one, and the
-  -- two numbers, each counted from the words, are equal. So it is for the empty log too.
+  -- two numbers, the threads and the voices of the apart set, each counted from the words, are equal. So it is for the empty log too.
   pub report_given : Accepted m l → LentEnough l (length o) (length w)
       → (c : ℕ) × (outcome_answer r ≡ given c)
       × Cover (graph_of l) (threads_of (take c o'))
       × Apart (graph_of l) (apart_of (take c o'))
-      × (length (threads_of (take c o')) ≡ length (apart_of (take c o')))
+      × (length (threads_of (take c o')) ≡ weight (graph_of l) (apart_of (take c o')))
   report_given accepted enough =
       let passes = accepted_passes m l accepted (length o) (length w) enough in
       let (c, e) = calls.acyclic_given m l o w o' w' r passes (accepted_acyclic m l accepted) left in
@@ -87,7 +89,7 @@ module _ (m : Ceilings) (l o w o' w' : List ℕ) (r : Outcome) (left : Left m l 
     λ enough. let g = report_given accepted enough in (g.0, g.1),
   )
 
-  -- The outcome is refusal 13 exactly when the log passes questions 1 to 12 and 18 and its graph has a loop.
+  -- The outcome is refusal 13 exactly when the log passes questions 1 to 12 and 18 to 21 and its graph has a loop.
   pub loop_exactly : ((k : ℕ) × (outcome_answer r ≡ refused 13 k))
       ↔ (Passes m l (length o) (length w) × ((c : List ℕ) × Loop (graph_of l) c))
   loop_exactly = (
@@ -101,9 +103,9 @@ module _ (m : Ceilings) (l o w o' w' : List ℕ) (r : Outcome) (left : Left m l 
       → ((c : List ℕ) × LoopShown (graph_of l) c × (length c ≡ k) × BeginsWith (loop_words c) o o') × (w' ≡ cleared w)
   loop_shown k e = let d = calls.refused_left m l o w o' w' r k left e in ((d.loop, d.shown, d.count, d.begins), d.work)
 
-  -- The outcome is another refusal exactly when questions 1 to 12 and 18 refuse with that number and place. It changes no buffer.
+  -- The outcome is another refusal exactly when questions 1 to 12 and 18 to 21 refuse with that number and place. It changes no buffer.
   pub refused_exactly : (q p : ℕ) → q ≢ 13
-      → (outcome_answer r ≡ refused q p) ↔ (asked m (λ n t. report_need n) l (length o) (length w) ≡ refused q p)
+      → (outcome_answer r ≡ refused q p) ↔ (asked m report_needs l (length o) (length w) ≡ refused q p)
   refused_exactly q p h = (λ e. (calls.refused_asked m l o w o' w' r q p h left e).0, calls.asked_refused m l o w o' w' r q p left)
 
   pub refused_unchanged : (q p : ℕ) → q ≢ 13 → outcome_answer r ≡ refused q p → (o' ≡ o) × (w' ≡ w)
@@ -123,11 +125,11 @@ module _ (m : Ceilings) (l o w o' w' : List ℕ) (r : Outcome) (left : Left m l 
   pub report_words_lem : take c o' ≡ report_words (apart_of (take c o')) (threads_of (take c o'))
   report_words_lem = d.words
 
-  -- Word 0 is of kind 4 and its number is the width. So are the number of threads and the number of the apart set's members.
+  -- Word 0 is of kind 4 and its number is the width. So are the number of threads and the voices of the apart set together.
   pub report_width : (kind (get_or (take c o') 0 0) ≡ 4) × Width (graph_of l) (number (get_or (take c o') 0 0))
   report_width = calls.report_width m l o w o' w' c d
 
-  pub both_width : Width (graph_of l) (length (threads_of (take c o'))) × Width (graph_of l) (length (apart_of (take c o')))
+  pub both_width : Width (graph_of l) (length (threads_of (take c o'))) × Width (graph_of l) (weight (graph_of l) (apart_of (take c o')))
   both_width =
       let k = calls.threads_width m l o w o' w' c d in
       (k, subst (Width (graph_of l)) d.reported.paired.same k)
@@ -148,19 +150,28 @@ module _ (m : Ceilings) (l o w o' w' : List ℕ) (r : Outcome) (left : Left m l 
   one_furthest s f h =
       graphs.one_furthest (graph_of l) d.reported.acyclic s (apart_of (take c o')) f d.reported.furthest h d.reported.rising
 
-  -- Thread i holds member i of the apart set and no other member.
-  pub thread_and_member : Paired (apart_of (take c o')) (threads_of (take c o'))
-  thread_and_member = d.reported.paired
+  -- The threads stand in the members' order, as many for each member as it has voices, and a thread holds no other member.
+  pub threads_and_members : Paired (graph_of l) (apart_of (take c o')) (threads_of (take c o'))
+  threads_and_members = d.reported.paired
 
--- 4. Every report, and every loop, fits the words that question 11 asks for.
-pub report_fits : (l apart : List ℕ) (threads : List (List ℕ)) → Reported (graph_of l) apart threads
-    → length (report_words apart threads) ≤ report_need (graph_of l).n
-report_fits l = calls.reported_fits
+  -- So each thread holds exactly one member, and exactly as many threads as its voices pass each member.
+  pub one_member_each : All (HoldsOne (apart_of (take c o'))) (threads_of (take c o'))
+  one_member_each =
+      graphs.one_member_each (threads_of (take c o')) (apart_of (take c o')) d.reported.cover d.reported.furthest.apart d.reported.paired.same
 
-pub loop_fits : (l c : List ℕ) → Loop (graph_of l) c → length (loop_words c) ≤ report_need (graph_of l).n
-loop_fits l = calls.loop_fits
+  pub as_many_threads : (v : ℕ) → Mem v (apart_of (take c o')) → passing_threads v (threads_of (take c o')) ≡ (graph_of l).voices v
+  as_many_threads =
+      graphs.as_many_threads (threads_of (take c o')) (apart_of (take c o')) d.reported.cover d.reported.furthest.apart d.reported.paired.same
 
--- 5. The scope's small logs, with the service's ceilings: a log passes questions 1 to 10 and 18 with its row's numbers, and what its row says holds
+-- 4. Every report on a log that passes questions 1 to 10 and 18 to 21, and every loop, fits the words that question 11 asks for.
+pub report_fits : (m : Ceilings) (l : List ℕ) (n t : ℕ) → questions m l ≡ given (n, t) → (apart : List ℕ) (threads : List (List ℕ))
+    → Reported (graph_of l) apart threads → length (report_words apart threads) ≤ report_need (graph_of l).n (voices_count l)
+report_fits = calls.reported_fits
+
+pub loop_fits : (l c : List ℕ) → Loop (graph_of l) c → length (loop_words c) ≤ report_need (graph_of l).n (voices_count l)
+loop_fits l = calls.loop_fits (voices_count l)
+
+-- 5. The scope's small logs, with the service's ceilings: a log passes questions 1 to 10 and 18 to 21 with its row's numbers, and what its row says holds
 -- of every call on it.
 pub small_logs : All Right rows
 small_logs = small.small_logs
@@ -169,14 +180,18 @@ small_logs = small.small_logs
 pub small_versions : All Right version_rows
 small_versions = small.small_versions
 
+-- The same of small logs with duets and doors.
+pub small_voices : All Right voices_rows
+small_voices = small.small_voices
+
 -- 6. Of every fair copy call: `CopyLeft m l o w o' w' r` is its contract, and `copy_answer` gives the scope's numbers. The copy's words are the
 -- first `c` of the output.
 module _ (m : Ceilings) (l o w o' w' : List ℕ) (r : Result ℕ Refusal) (left : CopyLeft m l o w o' w' r) where
-  -- A copy is given exactly when questions 1 to 12 and 18 are answered yes; loops are copied like other links.
+  -- A copy is given exactly when questions 1 to 12 and 18 to 21 are answered yes; loops are copied like other links.
   pub copy_exactly : ((c : ℕ) × (copy_answer r ≡ given c)) ↔ (copy_asked m l (length o) (length w) ≡ given ((graph_of l).n, heard_count l))
   copy_exactly = (λ (c, e). (copies.given_left m l o w o' w' r c left e).passes, λ passes. copies.asked_given_count m l o w o' w' r passes left)
 
-  -- It is refused exactly when questions 1 to 12 and 18 refuse, with that number and place. Then no buffer changes.
+  -- It is refused exactly when questions 1 to 12 and 18 to 21 refuse, with that number and place. Then no buffer changes.
   pub copy_refused_exactly : (q p : ℕ) → (copy_answer r ≡ refused q p) ↔ (copy_asked m l (length o) (length w) ≡ refused q p)
   copy_refused_exactly q p = (λ e. (copies.refused_asked m l o w o' w' r q p left e).0, copies.asked_refused m l o w o' w' r q p left)
 
@@ -192,8 +207,8 @@ module _ (m : Ceilings) (l o w o' w' : List ℕ) (r : Result ℕ Refusal) (left 
   pub copy_words_lem : (take c o' ≡ fair_words (content_of l)) × (o' ≡ take c o' ++ drop c o) × (w' ≡ cleared w)
   copy_words_lem = (copy.words, copy.unchanged, copy.work)
 
-  -- They are at most 2 + 2t, t being the to words of the log.
-  pub copy_fits : c ≤ fair_need (heard_count l)
+  -- They are at most 2 + 2t + v, t being the to words of the log and v its voices words.
+  pub copy_fits : c ≤ fair_need (heard_count l) (voices_count l)
   copy_fits = rw copy.count (fair.copy_fits m l _ _ copy.read)
 
   -- Read back as a log they pass questions 1 to 10 and 18, with the same n and a to word for each link that was heard; and the same links count.
@@ -204,7 +219,7 @@ module _ (m : Ceilings) (l o w o' w' : List ℕ) (r : Result ℕ Refusal) (left 
       let read = calls.read_graph m (fair_words (content_of l)) _ _ (fair.copy_read m l _ _ copy.read) in
       rw copy.words (read ∙ ap (λ (k : ℕ). given (k, heard_count (fair_words (content_of l)))) (sym same.episodes), same)
 
-  -- The version is the same, n, the set of links that were heard, and the least pause of each.
+  -- The version is the same, n, the voices, the set of links that were heard, and the least pause of each.
   pub copy_least_pauses : SameContent (content_of l) (content_of (take c o'))
   copy_least_pauses = rw copy.words (fair.copy_content m l _ _ copy.read)
 
@@ -219,6 +234,13 @@ module _ (m : Ceilings) (l o w o' w' : List ℕ) (r : Result ℕ Refusal) (left 
   -- In the order written the links rise, by the earlier episode and then by the later one; pauses do not matter for it.
   pub copy_rising : IsChain Precedes (heard_graph (content_of (take c o'))).links
   copy_rising = rw copy.words (fair.copy_rising _ _ _ (fair.log_fits m l _ _ copy.read))
+
+  -- The voices words are of the episodes with other voices than one, each with its voices, and they rise.
+  pub copy_voices : (v k : ℕ) → Mem {A = ℕ × ℕ} (v, k) (marks_of (drop 1 (take c o'))) ↔ ((v < (graph_of l).n) × ((graph_of l).voices v ≡ k) × (k ≢ 1))
+  copy_voices v k = rw copy.words (fair.copy_marked _ _ _ (fair.log_fits m l _ _ copy.read) v k)
+
+  pub copy_voices_rising : Rising (map (λ (s : ℕ × ℕ). s.0) (marks_of (drop 1 (take c o'))))
+  copy_voices_rising = rw copy.words (fair.copy_marks_rising _ _ _ (fair.log_fits m l _ _ copy.read))
 
   -- So the log and its copy have the same ways, covers and apart sets, width and furthest apart set, and the same loops.
   pub copy_ways : (a b : ℕ) → Way (graph_of l) a b ↔ Way (graph_of (take c o')) a b
@@ -242,13 +264,13 @@ module _ (m : Ceilings) (l o w o' w' : List ℕ) (r : Result ℕ Refusal) (left 
   -- A second call, at any ceilings and with any buffers, that gives a copy too.
   module _ (m₂ : Ceilings) (l₂ o₂ w₂ o₂' w₂' : List ℕ) (r₂ : Result ℕ Refusal) (left₂ : CopyLeft m₂ l₂ o₂ w₂ o₂' w₂' r₂) (c₂ : ℕ)
       (e₂ : copy_answer r₂ ≡ given c₂) where
-    -- The two copies are equal exactly when the versions, n, the sets of links that were heard and the least pause of each link agree.
+    -- The two copies are equal exactly when the versions, n, the voices, the sets of links that were heard and the least pause of each link agree.
     pub copies_equal : (take c o' ≡ take c₂ o₂') ↔ SameContent (content_of l) (content_of l₂)
     copies_equal =
         let second = copies.given_left m₂ l₂ o₂ w₂ o₂' w₂' r₂ c₂ left₂ e₂ in
         rw (copy.words, second.words) (fair.copies_equal m m₂ l l₂ _ _ _ _ copy.read second.read)
 
-    -- So where they are equal, n and the links that count agree; and of two older logs they are equal exactly then.
+    -- So where they are equal, n, the voices and the links that count agree; and of two older logs they are equal exactly then.
     pub copies_links : take c o' ≡ take c₂ o₂' → SameLinks (graph_of l) (graph_of l₂)
     copies_links same = same_links (copies_equal.0 same)
 
@@ -295,9 +317,9 @@ module _ (m : Ceilings) (l o w o' w' : List ℕ) (r : Outcome) (left : Left m l 
       (given-thread.0, given-thread.2)
 
 -- 8. Of every trimmed copy call: `TrimLeft m l o w o' w' r` is its contract, and `trim_answer` gives the scope's numbers. The copy's words are the
--- first `c` of the output. Its questions 1 to 12 and 18 are those of a fair copy call.
+-- first `c` of the output. Its questions 1 to 12 and 18 to 21 are those of a fair copy call.
 module _ (m : Ceilings) (l o w o' w' : List ℕ) (r : Result ℕ Refusal) (left : TrimLeft m l o w o' w' r) where
-  -- A trimmed copy is given exactly when questions 1 to 12 and 18 are answered yes and the log's graph has no loop.
+  -- A trimmed copy is given exactly when questions 1 to 12 and 18 to 21 are answered yes and the log's graph has no loop.
   pub trim_exactly : ((c : ℕ) × (trim_answer r ≡ given c)) ↔ (TrimPasses m l (length o) (length w) × ((c : List ℕ) → Loop (graph_of l) c → ⊥))
   trim_exactly = (
     λ (c, e). let d = trims.given_left m l o w o' w' r c left e in (d.passes, trims.given_no_loop m l o w o' w' c d),
@@ -320,7 +342,7 @@ module _ (m : Ceilings) (l o w o' w' : List ℕ) (r : Result ℕ Refusal) (left 
       → ((c : List ℕ) × LoopShown (graph_of l) c × (length c ≡ k) × BeginsWith (loop_words c) o o') × (w' ≡ cleared w)
   trim_loop_shown k e = let d = trims.refused_left m l o w o' w' r k left e in (d.1, d.2)
 
-  -- The outcome is another refusal exactly when questions 1 to 12 and 18 refuse with that number and place. It changes no buffer.
+  -- The outcome is another refusal exactly when questions 1 to 12 and 18 to 21 refuse with that number and place. It changes no buffer.
   pub trim_refused_exactly : (q p : ℕ) → q ≢ 13 → (trim_answer r ≡ refused q p) ↔ (copy_asked m l (length o) (length w) ≡ refused q p)
   trim_refused_exactly q p h = (λ e. (trims.refused_asked m l o w o' w' r q p h left e).0, trims.asked_refused m l o w o' w' r q p left)
 
@@ -336,8 +358,8 @@ module _ (m : Ceilings) (l o w o' w' : List ℕ) (r : Result ℕ Refusal) (left 
   pub trim_words : (take c o' ≡ trimmed_words (graph_of l)) × (o' ≡ take c o' ++ drop c o) × (w' ≡ cleared w)
   trim_words = (trim.words, trim.unchanged, trim.work)
 
-  -- They are at most 2 + 2t, t being the to words of the log.
-  pub trim_fits : c ≤ fair_need (heard_count l)
+  -- They are at most 2 + 2t + v, t being the to words of the log and v its voices words.
+  pub trim_fits : c ≤ fair_need (heard_count l) (voices_count l)
   trim_fits = rw trim.count (trimming.trim_fits m l _ _ trim.read)
 
   -- Read back as a log they pass questions 1 to 10 and 18, with the same n and a to word for each link; and the ways are the same.
@@ -369,7 +391,14 @@ module _ (m : Ceilings) (l o w o' w' : List ℕ) (r : Result ℕ Refusal) (left 
   pub trim_pauses : (a b p : ℕ) → HeardOf (content_of (take c o')) a b p → p ≡ 0
   trim_pauses a b p = rw trim.words (trimming.trim_pause m l _ _ trim.read a b p)
 
-  -- So the log and its trimmed copy have the same apart sets, width and furthest apart set, and every cover of the copy is a cover of the log.
+  -- The voices words are of the episodes with other voices than one, each with its voices, and they rise.
+  pub trim_voices : (v k : ℕ) → Mem {A = ℕ × ℕ} (v, k) (marks_of (drop 1 (take c o'))) ↔ ((v < (graph_of l).n) × ((graph_of l).voices v ≡ k) × (k ≢ 1))
+  trim_voices v k = rw trim.words (trimming.trim_marked m l _ _ trim.read v k)
+
+  pub trim_voices_rising : Rising (map (λ (s : ℕ × ℕ). s.0) (marks_of (drop 1 (take c o'))))
+  trim_voices_rising = rw trim.words (trimming.trim_marks_rising m l _ _ trim.read)
+
+  -- So the log and its trimmed copy, which have the same voices, have the same apart sets, width and furthest apart set, and every cover of the copy is a cover of the log.
   pub trim_apart : (s : List ℕ) → Apart (graph_of l) s ↔ Apart (graph_of (take c o')) s
   trim_apart = graphs.ways_apart trim_read_back.1
 
@@ -381,9 +410,11 @@ module _ (m : Ceilings) (l o w o' w' : List ℕ) (r : Result ℕ Refusal) (left 
       graphs.ways_width (links_below m l _ _ trim.read) (links_below m (take c o') _ _ trim_read_back.0) trim.acyclic trim_read_back.1
 
   pub trim_cover : (ts : List (List ℕ)) → Cover (graph_of (take c o')) ts → Cover (graph_of l) ts
-  trim_cover = graphs.more_cover (sym trim_read_back.1.episodes) (λ a b k. ((trim_links a b).0 k).link)
+  trim_cover =
+      graphs.more_cover (sym trim_read_back.1.episodes) (λ v h. omega (arith, trim_read_back.1.voices v (rw trim_read_back.1.episodes h)))
+      (λ a b k. ((trim_links a b).0 k).link)
 
-  -- It is the least: every log with the same n and the same ways has each of its links.
+  -- It is the least: every log with the same n, voices and ways has each of its links.
   pub trim_least : (l₂ : List ℕ) → SameWays (graph_of l) (graph_of l₂) → (a b : ℕ) → Link (graph_of (take c o')) a b → Link (graph_of l₂) a b
   trim_least l₂ same a b k = graphs.trimmed_least (links_below m l _ _ trim.read) same a b ((trim_links a b).0 k)
 
@@ -394,7 +425,7 @@ module _ (m : Ceilings) (l o w o' w' : List ℕ) (r : Result ℕ Refusal) (left 
     second : trims.TrimGiven m₂ l₂ o₂ w₂ o₂' w₂' c₂
     second = trims.given_left m₂ l₂ o₂ w₂ o₂' w₂' r₂ c₂ left₂ e₂
 
-    -- The two trimmed copies are equal exactly when n and the ways agree, whatever the versions.
+    -- The two trimmed copies are equal exactly when n, the voices and the ways agree, whatever the versions.
     pub trims_equal : (take c o' ≡ take c₂ o₂') ↔ SameWays (graph_of l) (graph_of l₂)
     trims_equal =
         rw (trim.words, second.words)
@@ -423,13 +454,13 @@ module _ (m : Ceilings) (l o w o' w' : List ℕ) (r : Result ℕ Refusal) (left 
           let third = trims.given_left m₃ l₃ o₃ w₃ o₃' w₃' r₃ c₃ left₃ e₃ in
           rw (third.words, is-fair, fair_second.words, is-log, trim.words) (trimming.fair_trim m l _ _ trim.read)
 
--- Every loop of a log that passes questions 1 to 10 and 18 fits the words that question 11 asks for.
+-- Every loop of a log that passes questions 1 to 10 and 18 to 21 fits the words that question 11 asks for.
 pub trim_loop_fits : (m : Ceilings) (l : List ℕ) (n t : ℕ) → questions m l ≡ given (n, t)
-    → (c : List ℕ) → Loop (graph_of l) c → length (loop_words c) ≤ fair_need t
-trim_loop_fits = trimming.trim_loop_fits
+    → (c : List ℕ) → Loop (graph_of l) c → length (loop_words c) ≤ fair_need t (voices_count l)
+trim_loop_fits m l n t read c loop = omega (arith, trimming.trim_loop_fits m l n t read c loop)
 
--- 9. Of every older log, one in which the number of the head is below 16,777,216 and that of each to word below 65,536: it is of version 0 and has
--- pause 0 everywhere, and the graph, the answer to questions 1 to 10, the fair copy and the trimmed copy that it had before heads had versions and to
+-- 9. Of every older log, one in which the number of the head is below 16,777,216, that of each to word below 65,536, and no word is a voices word: it is
+-- of version 0 and has pause 0 everywhere, and the graph, with one voice for each episode, the answer to questions 1 to 10, the fair copy and the trimmed copy that it had before heads had versions and to
 -- words pauses. What it had is said by the definitions as they were then.
 module _ (l : List ℕ) (older : Older l) where
   pub older_version : (content_of l).version ≡ 0
@@ -448,12 +479,15 @@ module _ (l : List ℕ) (older : Older l) where
   older_fair = fair_older l older
 
   pub older_trimmed : trimmed_words (graph_of l) ≡ earlier-copy.fair_words (trimmed (earlier.graph_of l))
-  older_trimmed = copy_earlier (trimmed (graph_of l)) ∙ ap (λ (g : Graph). earlier-copy.fair_words (trimmed g)) (graph_older l older)
+  unfolding trimmed
+  older_trimmed =
+      copy_earlier (trimmed (graph_of l)) (λ v h. ap (λ (g : Graph). g.voices v) (graph_older l older))
+      ∙ ap (λ (g : Graph). earlier-copy.fair_words (trimmed g)) (graph_older l older)
 
--- 10. Of every link count call: its contract is that its answer, `count_answer r`, is that of questions 1 to 10 and 18 and then the link count of the
+-- 10. Of every link count call: its contract is that its answer, `count_answer r`, is that of questions 1 to 10 and 18 to 21 and then the link count of the
 -- log's graph, `count_asked m l`.
 module _ (m : Ceilings) (l : List ℕ) (r : Result ℕ Refusal) (answer : count_answer r ≡ count_asked m l) where
-  -- A count is given exactly when questions 1 to 10 and 18 are answered yes, loops or none, and then it is the log's.
+  -- A count is given exactly when questions 1 to 10 and 18 to 21 are answered yes, loops or none, and then it is the log's.
   pub count_exactly : (k : ℕ) → (count_answer r ≡ given k) ↔ (((n : ℕ) × (t : ℕ) × (questions m l ≡ given (n, t))) × (link_count (graph_of l) ≡ k))
   count_exactly k = (
     λ e. let (((n, t), read), same) = then_given (questions m l) (link_count (graph_of l)) k (sym answer ∙ e) in ((n, t, read), same),
@@ -522,17 +556,18 @@ module _ (l : List ℕ) where
   pub version_1_by_some_word : (content_of l).version ≡ 1 → (a b : ℕ) → Link (graph_of l) a b ↔ ((p : ℕ) × HeardOf (content_of l) a b p × (p ≤ longest_pause))
   version_1_by_some_word = versions.new_some (content_of l)
 
--- A log that passes questions 1 to 10 and 18 is of one of the two.
+-- A log that passes questions 1 to 10 and 18 to 21 is of one of the two.
 pub version_known : (m : Ceilings) (l : List ℕ) (n t : ℕ) → questions m l ≡ given (n, t) → (content_of l).version ≤ 1
 version_known = laws.version_known
 
 -- Two logs of version 0.
 module _ (l l₂ : List ℕ) (old : (content_of l).version ≡ 0) (old₂ : (content_of l₂).version ≡ 0) where
-  -- Where n and the sets of links that were heard agree the graphs have the same links, so repeats change neither covers nor apart sets.
+  -- Where n, the voices and the sets of links that were heard agree the graphs have the same links, so repeats change neither covers nor apart sets.
   module _ (episodes : (content_of l).n ≡ (content_of l₂).n)
+      (voices : (v : ℕ) → v < (content_of l).n → (content_of l).voices v ≡ (content_of l₂).voices v)
       (heard : (a b : ℕ) → ((p : ℕ) × HeardOf (content_of l) a b p) ↔ ((p : ℕ) × HeardOf (content_of l₂) a b p)) where
     pub repeats_same : SameLinks (graph_of l) (graph_of l₂)
-    repeats_same = versions.old_same (content_of l) (content_of l₂) old old₂ episodes heard
+    repeats_same = versions.old_same (content_of l) (content_of l₂) old old₂ episodes voices heard
 
     pub repeats_covers : (ts : List (List ℕ)) → Cover (graph_of l) ts ↔ Cover (graph_of l₂) ts
     repeats_covers = graphs.same_covers repeats_same
@@ -551,13 +586,18 @@ module _ (l l₂ : List ℕ) (old : (content_of l).version ≡ 0) (old₂ : (con
         let read = sym (questions_unpaused m l) ∙ ap (questions m) same ∙ questions_unpaused m l₂ in
         let links = graph_without_pauses in
         let count = sym (count_unpaused l) ∙ ap heard_count same ∙ count_unpaused l₂ in
-        (calls.left_same m l l₂ read links count o w o' w' r, calls.left_same m l₂ l (sym read) (sym links) (sym count) o w o' w' r)
+        let voices = sym (voices_count_unpaused l) ∙ ap voices_count same ∙ voices_count_unpaused l₂ in (
+          calls.left_same m l l₂ read links count voices o w o' w' r,
+          calls.left_same m l₂ l (sym read) (sym links) (sym count) (sym voices) o w o' w' r,
+        )
 
 -- One log in version 0 and in another one, of which only 1 passes: the same n, and the same words behind the head.
 module _ (l₀ l₁ : List ℕ) (old : (content_of l₀).version ≡ 0) (episodes : (content_of l₀).n ≡ (content_of l₁).n) (words : drop 1 l₀ ≡ drop 1 l₁) where
   -- what the proofs below cite
   heard_same : heard_graph (content_of l₁) ≡ heard_graph (content_of l₀)
-  heard_same = ap₂ (λ (k : ℕ) (ws : List ℕ). heard_graph (record { version = 0; n = k; heard = heard_from 0 ws })) (sym episodes) (sym words)
+  heard_same =
+      ap₂ (λ (k : ℕ) (ws : List ℕ). heard_graph (record { version = 0; n = k; voices = voices_by (marks_of ws); heard = heard_from 0 ws })) (sym episodes)
+      (sym words)
 
   -- Where no pause is over 360 minutes it has the same graph in both.
   pub short_same : All (λ h. h.pause ≤ longest_pause) (content_of l₁).heard → graph_of l₁ ≡ graph_of l₀
@@ -570,7 +610,60 @@ module _ (l₀ l₁ : List ℕ) (old : (content_of l₀).version ≡ 0) (episode
       subst (λ (g : Graph). Link g a b) (heard_same ∙ sym (old_graph (content_of l₀) old)) (counted_heard (content_of l₁) a b k)
 
   pub version_covers : (ts : List (List ℕ)) → Cover (graph_of l₁) ts → Cover (graph_of l₀) ts
-  version_covers = graphs.more_cover (sym episodes) version_links
+  version_covers = graphs.more_cover (sym episodes) (λ v h. omega (arith, ap (λ (ws : List ℕ). voices_by (marks_of ws) v) words)) version_links
 
   pub version_width : (j k : ℕ) → Width (graph_of l₀) j → Width (graph_of l₁) k → j ≤ k
   version_width j k (ts, cover, smallest, size) (ts₁, cover₁, smallest₁, size₁) = omega (arith, smallest ts₁ (version_covers ts₁ cover₁))
+
+-- 12. Of voices. A log that passes questions 1 to 10 and 18 to 21: an episode has the voices that a voices word gives it, and one where none names it; none
+-- has more than two; and where there is a voices word there are at most 120 episodes.
+module _ (m : Ceilings) (l : List ℕ) (n t : ℕ) (read : questions m l ≡ given (n, t)) where
+  pub voices_given : (v c : ℕ) → Mem {A = ℕ × ℕ} (v, c) (marks_of (drop 1 l)) → (content_of l).voices v ≡ c
+  voices_given v c = laws.marks_voices m l n t read (v, c)
+
+  pub voices_else : (v : ℕ) → (Mem v (map (λ s. s.0) (marks_of (drop 1 l))) → ⊥) → (content_of l).voices v ≡ 1
+  voices_else = laws.voices_else l
+
+  pub voices_at_most : (v : ℕ) → v < n → (content_of l).voices v ≤ 2
+  voices_at_most = laws.voices_few m l n t read
+
+  pub voices_episodes : 1 ≤ voices_count l → n ≤ 120
+  voices_episodes = laws.voices_most m l n t read
+
+  -- Without voices words every episode has one voice.
+  pub no_voices_words : voices_count l ≡ 0 → OneVoice (graph_of l)
+  no_voices_words none v h = laws.voices_none l none v
+
+-- Where every episode has one voice, covers, apart sets, their weight, the width and the furthest apart set are those of the scope's own text, which knows
+-- no voices (`paths/specs/OneVoice.antt`, cited as `one`).
+module _ (l : List ℕ) (plain : OneVoice (graph_of l)) where
+  pub plain_covers : (ts : List (List ℕ)) → Cover (graph_of l) ts ↔ one.Cover (graph_of l) ts
+  plain_covers = graphs.one_cover plain
+
+  pub plain_smallest : (ts : List (List ℕ)) → Smallest (graph_of l) ts ↔ one.Smallest (graph_of l) ts
+  plain_smallest = graphs.one_smallest plain
+
+  pub plain_apart : (s : List ℕ) → Apart (graph_of l) s ↔ one.Apart (graph_of l) s
+  plain_apart = graphs.one_apart plain
+
+  pub plain_weight : (s : List ℕ) → All (Episode (graph_of l)) s → weight (graph_of l) s ≡ length s
+  plain_weight = graphs.one_weight (graph_of l) plain
+
+  pub plain_heaviest : (s : List ℕ) → All (Episode (graph_of l)) s → Heaviest (graph_of l) s ↔ one.Largest (graph_of l) s
+  plain_heaviest = graphs.one_largest plain
+
+  pub plain_width : (k : ℕ) → Width (graph_of l) k ↔ one.Width (graph_of l) k
+  plain_width = graphs.one_width plain
+
+  pub plain_furthest : (s : List ℕ) → Furthest (graph_of l) s ↔ one.Furthest (graph_of l) s
+  plain_furthest = graphs.one_furthest_too plain
+
+-- Two logs with the same episodes and links, and no episode with fewer voices in the second: every cover of the second is one of the first, so its width is
+-- at least that of the first.
+module _ (l l₂ : List ℕ) (episodes : (graph_of l).n ≡ (graph_of l₂).n) (links : (a b : ℕ) → Link (graph_of l) a b ↔ Link (graph_of l₂) a b)
+    (more : (v : ℕ) → Episode (graph_of l) v → (graph_of l).voices v ≤ (graph_of l₂).voices v) where
+  pub more_voices_covers : (ts : List (List ℕ)) → Cover (graph_of l₂) ts → Cover (graph_of l) ts
+  more_voices_covers = graphs.more_cover (sym episodes) (λ v h. more v (rw episodes h)) (λ a b. (links a b).1)
+
+  pub more_voices_width : (j k : ℕ) → Width (graph_of l) j → Width (graph_of l₂) k → j ≤ k
+  more_voices_width j k (ts, cover, smallest, size) (ts₂, cover₂, smallest₂, size₂) = omega (arith, smallest ts₂ (more_voices_covers ts₂ cover₂))

@@ -8,7 +8,7 @@ use lib.Dec.{T, eqb, eqb→eq, leb, nleb→lt}
 use lib.ListN.{length, take, drop, get_or}
 use borrow.Author.Tests.{lt-leb}
 use Rattle.order.specs.Order.{All}
-use Rattle.paths.specs.Graph.{Graph, Acyclic}
+use Rattle.paths.specs.Graph.{Graph, Acyclic, member, weight}
 use Rattle.paths.proofs.Theorems.{one_furthest}
 use Rattle.paths.proofs.Checker.{
   both,
@@ -16,7 +16,6 @@ use Rattle.paths.proofs.Checker.{
   each_right,
   some,
   some_right,
-  member,
   member_right,
   settled_test,
   settled_right,
@@ -26,10 +25,10 @@ use Rattle.paths.proofs.Checker.{
 use Rattle.paths.proofs.Worked as worked
 use Rattle.logs.specs.Words.{number, word}
 use Rattle.logs.specs.Answer.{given, refused}
-use Rattle.logs.specs.Log.{heard_from, questions, graph_of, heard_count}
+use Rattle.logs.specs.Log.{heard_from, questions, marks_of, voices_by, graph_of, heard_count, voices_count}
 use Rattle.logs.specs.declared.Ceilings.{Ceilings}
 use Rattle.writing.specs.Layout.{thread_words, threads_words, ended, report_words, loop_words, report_need, apart_of, threads_of}
-use Rattle.report.specs.Report.{outcome_answer, asked, cleared, Reported, Passes, Left}
+use Rattle.report.specs.Report.{outcome_answer, asked, report_needs, cleared, Reported, Passes, Left}
 use Rattle.report.specs.Accepted.{LentEnough}
 use Rattle.report.specs.declared.Outcome.{Outcome}
 use Rattle.writing.proofs.Layouts.{report_head}
@@ -83,13 +82,13 @@ same_right (x ∷ k) (y ∷ l) h =
 
 -- one of the covers worked out in `paths` settles that `s` is the furthest apart set
 settles : Graph → List ℕ → Bool
-settles g s = some (λ h. settled_test g h.threads s h.behind) worked.rows
+settles g s = some (λ h. settled_test g h.threads s h.behind) (worked.rows ++ worked.voiced_rows)
 
 -- then the graph is acyclic and every report on it has the apart set `s`
 settles_right : (g : Graph) (s : List ℕ) → T (settles g s) → Acyclic g × ((a : List ℕ) (ts : List (List ℕ)) → Reported g a ts → a ≡ s)
 unfolding settles
 settles_right g s h =
-    let (row, m, t) = some_right (λ (h : worked.Row). settled_test g h.threads s h.behind) worked.rows h in
+    let (row, m, t) = some_right (λ (h : worked.Row). settled_test g h.threads s h.behind) (worked.rows ++ worked.voiced_rows) h in
     let d = settled_right g row.threads s row.behind t in
     (d.acyclic, λ a ts r. one_furthest g d.acyclic a s r.furthest d.furthest r.rising d.rising)
 
@@ -111,16 +110,16 @@ cover_right g s f h =
           (e, each_right f (covers g s) q.1 ts (covers_all g s ts (subst (λ (x : List ℕ). Reported g x ts) e r))),
     )
 
--- what is said of the log `l` is so, if the log passes questions 1 to 10 and 18
+-- what is said of the log `l` is so, if the log passes questions 1 to 10 and 18 to 21
 unfoldable pub said_test : List ℕ → Said → Bool
-unfolding cover_test same each member loops loop_test heard_from apart_of report_words ended threads_words thread_words loop_words
+unfolding cover_test same each member weight loops loop_test heard_from marks_of voices_by apart_of report_words ended threads_words thread_words loop_words
 said_test l (report ws) = cover_test (graph_of l) (apart_of ws) (λ ts. same (report_words (apart_of ws) ts) ws)
-said_test l (parts k s through) = eqb (length s) k && cover_test (graph_of l) s (each (λ t. each (λ v. member v t) through))
+said_test l (parts k s through) = eqb (weight (graph_of l) s) k && cover_test (graph_of l) s (each (λ t. each (λ v. member v t) through))
 said_test l (loop p ws) =
     loop_test (graph_of l) (map number (drop 1 ws)) && each (λ c. eqb (length c) p && same (loop_words c) ws) (loops (graph_of l))
-said_test l (short k p) = not (leb (report_need (graph_of l).n) k) && eqb (report_need (graph_of l).n) p
+said_test l (short k p) = not (leb (report_need (graph_of l).n (voices_count l)) k) && eqb (report_need (graph_of l).n (voices_count l)) p
 
--- Where the test passes, what is said is so of every call on a log that passes questions 1 to 10 and 18.
+-- Where the test passes, what is said is so of every call on a log that passes questions 1 to 10 and 18 to 21.
 module _ (m : Ceilings) (l : List ℕ) (read : questions m l ≡ given ((graph_of l).n, heard_count l)) (o w o' w' : List ℕ) (r : Outcome)
     (left : Left m l o w o' w' r) where
   passes : LentEnough l (length o) (length w) → Passes m l (length o) (length w)
@@ -143,18 +142,18 @@ module _ (m : Ceilings) (l : List ℕ) (read : questions m l ≡ given ((graph_o
   unfolding said_test
   parts_said k s through h enough =
       let passing : List (List ℕ) → Bool = each (λ t. each (λ v. member v t) through) in
-      let q = both (eqb (length s) k) (cover_test (graph_of l) s passing) h in
+      let q = both (eqb (weight (graph_of l) s) k) (cover_test (graph_of l) s passing) h in
       let (acyclic, only) = cover_right (graph_of l) s passing q.1 in
       let (c, e) = calls.acyclic_given m l o w o' w' r (passes enough) acyclic left in
       let d = calls.given_left m l o w o' w' r c left e in
       let ts : List (List ℕ) = threads_of (take c o') in
       let (a, f) = only (apart_of (take c o')) ts d.reported in
-      let size : length (apart_of (take c o')) ≡ k = ap length a ∙ eqb→eq (length s) k q.0 in (
+      let size : length ts ≡ k = d.reported.paired.same ∙ ap (weight (graph_of l)) a ∙ eqb→eq (weight (graph_of l) s) k q.0 in (
         c,
         e,
         ap (λ (ws : List ℕ). get_or ws 0 0) d.words ∙ report_head (apart_of (take c o')) ts ∙ ap (word 4) size,
         a,
-        d.reported.paired.same ∙ size,
+        size,
         λ t i v j. member_right v t (each_right (λ v. member v t) through (each_right (λ t. each (λ v. member v t) through) ts f t i) v j),
       )
 
@@ -176,11 +175,11 @@ module _ (m : Ceilings) (l : List ℕ) (read : questions m l ≡ given ((graph_o
   short_said : (k p : ℕ) → T (said_test l (short k p)) → Shown l (short k p) o w o' w' r
   unfolding said_test
   short_said k p h e =
-      let need : ℕ = report_need (graph_of l).n in
+      let need : ℕ = report_need (graph_of l).n (voices_count l) in
       let q = both (not (leb need k)) (eqb need p) h in
       let few : length o < need = rw e (nleb→lt need k q.0) in
-      let asks : asked m (λ n t. report_need n) l (length o) (length w) ≡ refused 11 p =
-      asked_read m (λ n t. report_need n) l (length o) (length w) (graph_of l).n (heard_count l) read
+      let asks : asked m report_needs l (length o) (length w) ≡ refused 11 p =
+      asked_read m report_needs l (length o) (length w) (graph_of l).n (heard_count l) read
       ∙ rw (lt-leb need (length o) few) (ap (refused 11) (eqb→eq need p q.1)) in
       let f = calls.asked_refused m l o w o' w' r 11 p left asks in
       let d = calls.refused_asked m l o w o' w' r 11 p (omega arith) left f in

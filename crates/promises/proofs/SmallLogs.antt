@@ -1,4 +1,5 @@
--- The scope's small logs, those that are to be proved, and small logs of both versions: two lists of rows, and a theorem of each.
+-- The scope's small logs, those that are to be proved, small logs of both versions, and small logs with voices: three lists of rows, and a theorem of
+-- each.
 use mathlib.Core.Path.{◌≡◌}
 use mathlib.Core.Logic.Dec
 use mathlib.Core.Bool.{Bool, false, ◌&&◌}
@@ -11,7 +12,7 @@ use Rattle.paths.specs.Links.{linked, distinct, link_count}
 use Rattle.paths.proofs.Checker.{both, each, each_right}
 use Rattle.logs.specs.Content.{pauses_of, least, counting}
 use Rattle.logs.specs.Answer.{Answer, given, refused}
-use Rattle.logs.specs.Log.{service, onwards, group_word, end_word, questions, heard_from, graph_of}
+use Rattle.logs.specs.Log.{service, onwards, group_word, end_word, marked, voices_asked, voices_onwards, questions, heard_from, marks_of, graph_of}
 use Rattle.report.specs.Report.{Left}
 use Rattle.report.specs.declared.Outcome.{Outcome}
 use Rattle.report.proofs.Reported.{read_graph}
@@ -162,7 +163,80 @@ version_rows =
     }
     ∷ []
 
--- A row is right: the log passes questions 1 to 10 and 18 with its episodes and to words, its graph has its link count, and what is said holds of
+-- rows with duets and doors
+abbrev pub voices_rows : List Row
+voices_rows =
+    -- one episode, a door: nobody is needed for it
+    record {
+      log = 0x10000001 ∷ 0x90000000 ∷ 0xF0000000 ∷ [];
+      episodes = 1;
+      words = 0;
+      links = 0;
+      says = report (0x40000000 ∷ 0xF0000001 ∷ []);
+    }
+    -- one episode, a duet: two threads of it
+    ∷ record {
+      log = 0x10000001 ∷ 0x90020000 ∷ 0xF0000000 ∷ [];
+      episodes = 1;
+      words = 0;
+      links = 0;
+      says = report (0x40000002 ∷ 0x50000000 ∷ 0x60000001 ∷ 0x70000000 ∷ 0x60000001 ∷ 0x70000000 ∷ 0xF0000006 ∷ []);
+    }
+    -- 0-1, a duet and one voice: 0 is heavier
+    ∷ record {
+      log = 0x10000002 ∷ 0x90020000 ∷ 0x20000000 ∷ 0x30000001 ∷ 0xF0000001 ∷ [];
+      episodes = 2;
+      words = 1;
+      links = 1;
+      says = parts 2 (0 ∷ []) (0 ∷ []);
+    }
+    -- 0-1, one voice and a duet: both threads pass 1
+    ∷ record {
+      log = 0x10000002 ∷ 0x90020001 ∷ 0x20000000 ∷ 0x30000001 ∷ 0xF0000001 ∷ [];
+      episodes = 2;
+      words = 1;
+      links = 1;
+      says = parts 2 (1 ∷ []) (1 ∷ []);
+    }
+    -- 0-1, a door and a duet, the voices words falling
+    ∷ record {
+      log = 0x10000002 ∷ 0x90020001 ∷ 0x90000000 ∷ 0x20000000 ∷ 0x30000001 ∷ 0xF0000001 ∷ [];
+      episodes = 2;
+      words = 1;
+      links = 1;
+      says = parts 2 (1 ∷ []) (1 ∷ []);
+    }
+    -- 0-1, two duets, two heaviest sets of which 1 is further along: both threads are 0 1
+    ∷ record {
+      log = 0x10000002 ∷ 0x90020000 ∷ 0x90020001 ∷ 0x20000000 ∷ 0x30000001 ∷ 0xF0000001 ∷ [];
+      episodes = 2;
+      words = 1;
+      links = 1;
+      says = parts 2 (1 ∷ []) (1 ∷ []);
+    }
+    -- 0-1, 1-2, all doors
+    ∷ record {
+      log = 0x10000003 ∷ 0x90000000 ∷ 0x90000001 ∷ 0x90000002 ∷ 0x20000000 ∷ 0x30000001 ∷ 0x20000001 ∷ 0x30000002 ∷ 0xF0000002 ∷ [];
+      episodes = 3;
+      words = 2;
+      links = 2;
+      says = report (0x40000000 ∷ 0xF0000001 ∷ []);
+    }
+    -- 0-2, 1-2, 2-3, 2-4, 2-5 with duets 0 and 1: two members weigh more than the three others
+    ∷ record {
+      log =
+          0x10000006 ∷ 0x90020000 ∷ 0x90020001 ∷ 0x20000000 ∷ 0x30000002 ∷ 0x20000001 ∷ 0x30000002 ∷ 0x20000002 ∷ 0x30000003 ∷ 0x30000004 ∷ 0x30000005
+          ∷ 0xF0000005 ∷ [];
+      episodes = 6;
+      words = 5;
+      links = 5;
+      says = parts 4 (0 ∷ 1 ∷ []) [];
+    }
+    -- one episode, a voices word that says 1: the words of a log with voices words are asked for
+    ∷ record { log = 0x10000001 ∷ 0x90010000 ∷ 0xF0000000 ∷ []; episodes = 1; words = 0; links = 0; says = short 6 7 }
+    ∷ []
+
+-- A row is right: the log passes questions 1 to 10 and 18 to 21 with its episodes and to words, its graph has its link count, and what is said holds of
 -- every call.
 abbrev pub Right : Row → Type 0
 Right row =
@@ -191,12 +265,16 @@ row_test row =
     && (eqb (link_count (graph_of row.log)) row.links && said_test row.log row.says)
 
 rows_pass : T (each row_test rows)
-unfolding each row_test gives said_test questions onwards group_word end_word heard_from counting linked distinct
+unfolding each row_test gives said_test questions voices_onwards onwards group_word end_word heard_from marks_of counting linked distinct
 rows_pass = tt
 
 version_rows_pass : T (each row_test version_rows)
-unfolding each row_test gives said_test questions onwards group_word end_word heard_from pauses_of least Dec.and ℕ_discrete counting linked distinct
+unfolding each row_test gives said_test questions voices_onwards onwards group_word end_word heard_from marks_of pauses_of least Dec.and ℕ_discrete counting linked distinct
 version_rows_pass = tt
+
+voices_rows_pass : T (each row_test voices_rows)
+unfolding each row_test gives said_test questions voices_onwards voices_asked marked onwards group_word end_word heard_from marks_of counting linked distinct
+voices_rows_pass = tt
 
 -- a row that passes is right
 row_right : (row : Row) → T (row_test row) → Right row
@@ -217,6 +295,9 @@ row_right row h =
 -- Every row is right.
 pub small_logs : All Right rows
 small_logs row i = row_right row (each_right row_test rows rows_pass row i)
+
+pub small_voices : All Right voices_rows
+small_voices row i = row_right row (each_right row_test voices_rows voices_rows_pass row i)
 
 pub small_versions : All Right version_rows
 small_versions row i = row_right row (each_right row_test version_rows version_rows_pass row i)

@@ -6,7 +6,7 @@ use native.Mathlib.Omega.{arith}
 use lib.ListN.{length, take, get_or}
 use Rattle.order.specs.Order.{Chain, single, more}
 use Rattle.logs.specs.Words.{number, word, Small}
-use Rattle.logs.specs.Log.{graph_of, heard_count}
+use Rattle.logs.specs.Log.{graph_of, heard_count, voices_count}
 use Rattle.logs.specs.declared.Ceilings.{Ceilings}
 use Rattle.logs.proofs.Laws.{few_episodes}
 use Rattle.writing.specs.Layout.{apart_of, threads_of}
@@ -14,7 +14,8 @@ use Rattle.writing.proofs.Layouts.{numbers_of}
 use Rattle.writing.proofs.Reporting.{report_few}
 use Rattle.parsing.specs.Whole.{IsReport, Whole, ThreadNumber, ThreadSteps}
 use Rattle.parsing.proofs.ThreadParse.{fit_at}
-use Rattle.report.proofs.Reported.{ReportLeft, apart_few, apart_small, threads_small, reported_fits, report_accepted}
+use Rattle.report.proofs.Reported.{ReportLeft, apart_small, threads_small, threads_few, reported_fits, report_accepted}
+use Rattle.paths.proofs.Fits.{weight_some}
 use Rattle.threads.proofs.ThreadCalls.{count_of, has_below}
 
 -- what the two calls say of thread `i` of the words `ws`
@@ -53,16 +54,19 @@ module _ (m : Ceilings) (l o w o' w' : List ℕ) (c : ℕ) (few : m.episodes < 2
 
   count_left : length (take c o') ≤ 2 ^ 28
   count_left =
-      let fits = reported_fits (apart_of (take c o')) (threads_of (take c o')) d.reported in
-      omega (arith, ap length d.words, report_few (graph_of l).n few_left)
+      let fits = reported_fits m l _ _ (report_accepted m l o w o' w' c d).read (apart_of (take c o')) (threads_of (take c o')) d.reported in
+      omega (arith, ap length d.words, report_few (graph_of l).n (voices_count l) few_left)
+
+  many_left : Small (length (threads_of (take c o')))
+  many_left = threads_few m l (report_accepted m l o w o' w' c d).read d.reported
 
   pub left_whole : IsReport (take c o') (apart_of (take c o')) (threads_of (take c o'))
   left_whole =
       record {
         words = d.words;
-        same = d.reported.paired.same;
-        width_fits = omega (arith, apart_few small_left d.reported, few_left);
-        apart_fits = apart_small small_left d.reported;
-        threads_fit = λ t n. (chain_some (d.reported.cover.threads t n).path, threads_small small_left d.reported t n);
+        few = omega (arith, weight_some (graph_of l) (apart_of (take c o')) d.reported.furthest.apart.voiced, d.reported.paired.same);
+        width_fits = many_left;
+        apart_fits = apart_small small_left many_left d.reported;
+        threads_fit = λ t n. (chain_some (d.reported.cover.threads t n).path, threads_small small_left many_left d.reported t n);
         count_fits = count_left;
       }

@@ -10,17 +10,17 @@ use lib.Seq.{take-suc}
 use Rattle.logs.specs.Words.{to_episode, to_pause}
 use Rattle.logs.specs.Content.{joins, short_enough, short_of}
 use Rattle.logs.specs.Groups.{short_before, told, EpisodesBelow}
-use Rattle.logs.specs.Log.{content_of}
+use Rattle.logs.specs.Log.{content_of, voices_count}
 use Rattle.logs.specs.Hear.{where_short}
 use Rattle.logs.specs.Passing.{Given}
 use Rattle.logs.specs.declared.passed.Log.{Log}
 use Rattle.logs.specs.declared.passed.Group.{Group}
 use Rattle.logs.specs.declared.passed.Groups.{Groups}
 use Rattle.logs.proofs.Counts.{short_more, short_one}
-use Rattle.logs.proofs.Laws.{no_links, links_passed, short_counts}
+use Rattle.logs.proofs.Laws.{no_links, voices_end, links_passed, short_counts}
 use Rattle.logs.proofs.Passing.{links_group}
 use Rattle.bits.specs.Bits.{SetWhere}
-use Rattle.bits.specs.Work.{links_at, ways_at, Outside, next_at}
+use Rattle.bits.specs.Work.{links_at, ways_at, Outside, items_at}
 use Rattle.bits.proofs.Frames.{outside_none, outside_then, outside_wider, set_outside}
 use Rattle.bits.proofs.Pairs.{no_pairs, one_pair_more}
 use Rattle.reach.specs.Reach.{Marked, links_of, GroupMarked, LinksMarked}
@@ -67,10 +67,12 @@ pub record Marking (w w' : List ℕ) (s : Groups) : Type 0 where
   pub links : Marked (short_before s.log.words.now s.at) w'
 
 -- before the first group there is none, and no bit is set
-pub marking_start : (s : Groups) (w : List ℕ) → s.at ≡ 1 → ((i : ℕ) → i < next_at → get_or w i 0 ≡ 0) → Marking w w s
+pub marking_start : (s : Groups) (w : List ℕ) → s.at ≡ s.log.voices_words + 1 → ((i : ℕ) → i < items_at → get_or w i 0 ≡ 0) → Marking w w s
 marking_start s w first zeros =
-    let within = s.here.within in
-    let none : short_before s.log.words.now s.at ≡ [] = ap (short_before s.log.words.now) first ∙ no_links s.log.words.now (omega arith) in
+    let l = s.log.words.now in
+    let start : s.at ≡ voices_count l + 1 = omega (arith, s.log.voices) in
+    let none : short_before l s.at ≡ [] =
+    ap (short_before l) start ∙ no_links l (voices_count l + 1) (voices_end _ l s.log.episodes s.log.to_words s.log.passes) in
     record {
       outside = outside_none links_at ways_at w;
       links = subst (λ q. Marked q w) (sym none) (no_pairs links_at w (λ i h. zeros i (omega arith)));

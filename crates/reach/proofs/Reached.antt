@@ -10,7 +10,7 @@ use Rattle.std.proofs.lemmas.List.{get_or_past}
 use Rattle.paths.specs.Graph.{Graph, EndsBelow, Link}
 use Rattle.logs.specs.Log.{graph_of, PassesWith}
 use Rattle.logs.proofs.Laws.{graph_episodes, links_below}
-use Rattle.bits.specs.Work.{links_at, ways_at, matrix_words, Matrix, next_at}
+use Rattle.bits.specs.Work.{links_at, ways_at, matrix_words, Matrix, items_at}
 use Rattle.bits.proofs.Frames.{outside_then, outside_wider, matrix_before}
 use Rattle.rising.specs.Rising.{NoWays, BitsRise, LinksRise}
 use Rattle.rising.proofs.Front.{matrix_same, matrix_all, outside_all}
@@ -45,7 +45,7 @@ copied {w} links ways ways' e many many' same =
     was : (i : ℕ) → get_or w i 0 ≡ get_or (links ++ ways) i 0
     was i = ap (λ l. get_or l i 0) e
 
-    last : (v : List ℕ) (i : ℕ) → length v ≡ matrix_words → next_at ≤ i → get_or (links ++ v) i 0 ≡ 0
+    last : (v : List ℕ) (i : ℕ) → length v ≡ matrix_words → items_at ≤ i → get_or (links ++ v) i 0 ≡ 0
     last v i n h = get_or_past (links ++ v) i 0 (omega (arith, length-append links v))
 
 pub closed_reached : (w w' w'' : List ℕ) (n : ℕ) → LinksCopied w w' → Closed w' w'' n → WaysReached w w'' n
@@ -59,10 +59,10 @@ pub no_ways : (l w w' : List ℕ) → NoneMarked w → LinksMarked l w w' → No
 no_ways l w w' none p i lo hi = p.outside.behind i lo ∙ none i hi
 
 -- from the front of the words to all
-pub reached : {w f f' f'' : List ℕ} (l : List ℕ) (n t : ℕ) → PassesWith l n t → IsFirstChunk w f next_at → LinksMarked l f f' → WaysReached f' f'' n
-    → ReachedLog l w (f'' ++ drop next_at w)
+pub reached : {w f f' f'' : List ℕ} (l : List ℕ) (n t : ℕ) → PassesWith l n t → IsFirstChunk w f items_at → LinksMarked l f f' → WaysReached f' f'' n
+    → ReachedLog l w (f'' ++ drop items_at w)
 reached {f'' = f''} l n t e s p q =
-    let o = outside_then (outside_wider {lo' = links_at} {hi' = next_at} (omega arith) (omega arith) p.outside) (outside_wider (omega arith) (omega arith) q.outside) in
+    let o = outside_then (outside_wider {lo' = links_at} {hi' = items_at} (omega arith) (omega arith) p.outside) (outside_wider (omega arith) (omega arith) q.outside) in
     record {
       outside = outside_all s f'' o;
       links = matrix_all s f'' o links_at (omega arith) (matrix_before (omega arith) q.outside p.links);

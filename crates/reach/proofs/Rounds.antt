@@ -10,7 +10,7 @@ use Rattle.paths.specs.Graph.{Graph, EndsBelow, Link}
 use Rattle.paths.specs.Closure.{WayBelow}
 use Rattle.paths.proofs.Ways.{below_way, way_below, way_first}
 use Rattle.bits.specs.Bits.{bit, RowGained}
-use Rattle.bits.specs.Work.{ways_at, Matrix, Outside, next_at}
+use Rattle.bits.specs.Work.{ways_at, Matrix, Outside, items_at}
 use Rattle.bits.proofs.Rows.{bit_lt}
 use Rattle.reach.specs.Reach.{HoldsWays, RowClosed, RoundClosed, Closed}
 use Rattle.bits.proofs.Frames.{outside_none, outside_then, outside_wider, gained_outside, row_other}
@@ -33,7 +33,7 @@ row_joined_closed w w' v a k ha held o j =
 pub row_left_closed : (w : List ℕ) (a k : ℕ) → (bit w (ways_at + 8 * a) k ≡ 1 → ⊥) → RowClosed w w a k
 row_left_closed w a k z =
     record {
-      outside = outside_none ways_at next_at w;
+      outside = outside_none ways_at items_at w;
       here = λ y hy.
           let l : bit w (ways_at + 8 * a) k < 2 = bit_lt w (ways_at + 8 * a) k in
           let none : bit w (ways_at + 8 * a) k ≡ 0 = omega (arith, z) in
@@ -102,7 +102,7 @@ module _ {R : ℕ → ℕ → Type 0} {w w' : List ℕ} {a k : ℕ} (hk : k < 25
 
 -- After the rows below `a` of round `k`, where `v` has the ways of `k`.
 pub record InRound (w w' v : List ℕ) (n k a : ℕ) : Type 0 where
-  pub outside : Outside ways_at next_at w w'
+  pub outside : Outside ways_at items_at w w'
   pub at_most : a ≤ n
   pub held : HoldsWays w' k v
   pub ways : (g : Graph) → Matrix ways_at w (WayBelow g k) → Matrix ways_at w' (By (WayBelow g k) k a)
@@ -137,13 +137,13 @@ round_end w w' v n k a h s =
 
 -- After the rounds below `k`.
 pub record InClosure (w w' : List ℕ) (n k : ℕ) : Type 0 where
-  pub outside : Outside ways_at next_at w w'
+  pub outside : Outside ways_at items_at w w'
   pub at_most : k ≤ n
   pub ways : (g : Graph) → EndsBelow g → g.n ≡ n → Matrix ways_at w (Link g) → Matrix ways_at w' (WayBelow g k)
 
 pub closure_start : (w : List ℕ) (n : ℕ) → InClosure w w n 0
 unfolding WayBelow
-closure_start w n = record { outside = outside_none ways_at next_at w; at_most = omega arith; ways = λ g ends e m. m }
+closure_start w n = record { outside = outside_none ways_at items_at w; at_most = omega arith; ways = λ g ends e m. m }
 
 pub closure_round : (w w' w'' : List ℕ) (n k : ℕ) → k < n → InClosure w w' n k → RoundClosed w' w'' n k → InClosure w w'' n (k + 1)
 closure_round w w' w'' n k h s r =

@@ -7,11 +7,11 @@ use Rattle.paths.specs.Graph.{Graph, EndsBelow, Link, Way}
 use Rattle.paths.specs.Closure.{WayBelow}
 use Rattle.logs.specs.Log.{graph_of}
 use Rattle.bits.specs.Bits.{bit}
-use Rattle.bits.specs.Work.{links_at, ways_at, matrix_words, Matrix, Outside, next_at}
+use Rattle.bits.specs.Work.{links_at, ways_at, matrix_words, Matrix, Outside, items_at}
 
 -- the words of both matrices are zero
 abbrev pub NoneMarked : List ℕ → Type 0
-NoneMarked w = (i : ℕ) → i < next_at → get_or w i 0 ≡ 0
+NoneMarked w = (i : ℕ) → i < items_at → get_or w i 0 ≡ 0
 
 -- the first matrix holds the links `ls`
 abbrev pub Marked : List (ℕ × ℕ) → List ℕ → Type 0
@@ -33,7 +33,7 @@ pub record LinksMarked (l w w' : List ℕ) : Type 0 where
 
 -- the words of the links are those of the ways too
 pub record LinksCopied (w w' : List ℕ) : Type 0 where
-  pub outside : Outside ways_at next_at w w'
+  pub outside : Outside ways_at items_at w w'
   pub words : (i : ℕ) → i < matrix_words → get_or w' (ways_at + i) 0 ≡ get_or w (links_at + i) 0
 
 -- the row of bits `v` has the ways of `k`
@@ -42,28 +42,28 @@ HoldsWays w k v = (b : ℕ) → b < 256 → bit v 0 b ≡ bit w (ways_at + 8 * k
 
 -- row `a` of the ways has the ways of `k` besides, where it has `k`
 pub record RowClosed (w w' : List ℕ) (a k : ℕ) : Type 0 where
-  pub outside : Outside ways_at next_at w w'
+  pub outside : Outside ways_at items_at w w'
   pub here : (y : ℕ) → y < 256 → bit w' (ways_at + 8 * a) y ≡ max (bit w (ways_at + 8 * a) y) (min (bit w (ways_at + 8 * a) k) (bit w (ways_at + 8 * k) y))
   pub other : (x y : ℕ) → x < 256 → y < 256 → (x ≡ a → ⊥) → bit w' (ways_at + 8 * x) y ≡ bit w (ways_at + 8 * x) y
 
 -- from the ways with inner episodes below `k` to those with inner episodes below k + 1
 pub record RoundClosed (w w' : List ℕ) (n k : ℕ) : Type 0 where
-  pub outside : Outside ways_at next_at w w'
+  pub outside : Outside ways_at items_at w w'
   pub ways : (g : Graph) → EndsBelow g → g.n ≡ n → Matrix ways_at w (WayBelow g k) → Matrix ways_at w' (WayBelow g (k + 1))
 
 -- from the links, where the ways are to stand, to the ways
 pub record Closed (w w' : List ℕ) (n : ℕ) : Type 0 where
-  pub outside : Outside ways_at next_at w w'
+  pub outside : Outside ways_at items_at w w'
   pub ways : (g : Graph) → EndsBelow g → g.n ≡ n → Matrix ways_at w (Link g) → Matrix ways_at w' (Way g)
 
 -- from the links to the ways
 pub record WaysReached (w w' : List ℕ) (n : ℕ) : Type 0 where
-  pub outside : Outside ways_at next_at w w'
+  pub outside : Outside ways_at items_at w w'
   pub ways : (g : Graph) → EndsBelow g → g.n ≡ n → Matrix links_at w (Link g) → Matrix ways_at w' (Way g)
 
 -- the matrices hold the links and the ways of the log
 pub record ReachedLog (l w w' : List ℕ) : Type 0 where
-  pub outside : Outside links_at next_at w w'
+  pub outside : Outside links_at items_at w w'
   pub links : Matrix links_at w' (Link (graph_of l))
   pub ways : Matrix ways_at w' (Way (graph_of l))
 

@@ -7,18 +7,18 @@ ghost use Rattle.std.specs.Prelude.{◌+◌, ◌*◌, ◌/◌, ◌<◌, ◌≤�
 ghost use Rattle.logs.specs.Content.{short_enough};
 ghost use Rattle.logs.specs.Groups.{EpisodesBelow};
 ghost use Rattle.bits.specs.Bits.{SetWhere};
-ghost use Rattle.bits.specs.Work.{next_at};
+ghost use Rattle.bits.specs.Work.{items_at};
 ghost use Rattle.rising.specs.Rising.{NoWays};
 ghost use Rattle.reach.specs.Reach.{NoneMarked, GroupMarked, LinksMarked, LinksCopied, HoldsWays, RowClosed, RoundClosed, Closed, WaysReached};
 ghost use Rattle.reach.specs.Reach.{ReachedLog, FirstLoop, episode_or};
 
-use bits::{LINKS, NEXT, WAYS};
+use bits::{ITEMS, LINKS, WAYS};
 use logs::{Group, Log, ToWord};
 
 // Marks the link of a to word in the row that starts at word `row`, where its pause lets it count in this version. In version 0 its pause is not looked
 // at, and in version 1 it is not branched on, since the processor could not foresee it.
-fn mark_link(version: u32, to: ToWord, row: usize, w: &mut [u32; NEXT])
-    requires { row + to.episode / 32 < next_at }
+fn mark_link(version: u32, to: ToWord, row: usize, w: &mut [u32; ITEMS])
+    requires { row + to.episode / 32 < items_at }
     ensures { SetWhere (short_enough version to.pause) w.old w.new row to.episode }
 {
     if version == 0 {
@@ -30,7 +30,7 @@ fn mark_link(version: u32, to: ToWord, row: usize, w: &mut [u32; NEXT])
 
 // Marks the links of a group in the row of its episode, where their pauses let them count in this version. As in `copying`, but for what is done at
 // each to word: a trait for that would be longer than both.
-fn mark_group(group: Group, version: u32, w: &mut [u32; NEXT])
+fn mark_group(group: Group, version: u32, w: &mut [u32; ITEMS])
     requires { (group.from < 256) × EpisodesBelow 256 group.to_words.now }
     ensures { GroupMarked version group.entry.from group.entry.to_words.now w.old w.new }
 {
@@ -41,7 +41,7 @@ fn mark_group(group: Group, version: u32, w: &mut [u32; NEXT])
 }
 
 // Marks the links of a log that count, group by group.
-fn mark_links(log: Log, w: &mut [u32; NEXT])
+fn mark_links(log: Log, w: &mut [u32; ITEMS])
     requires { (log.episodes ≤ 256) × NoneMarked w.old }
     ensures { LinksMarked log.entry.words.now w.old w.new }
 {
@@ -52,7 +52,7 @@ fn mark_links(log: Log, w: &mut [u32; NEXT])
 }
 
 // Copies the links to where the ways are to stand.
-fn copy_links(w: &mut [u32; NEXT])
+fn copy_links(w: &mut [u32; ITEMS])
     ensures { LinksCopied w.old w.new }
 {
     let (links, ways) = w.split_at_mut(WAYS);
@@ -60,7 +60,7 @@ fn copy_links(w: &mut [u32; NEXT])
 }
 
 // Where `a` has a way to `k`, gives it the ways of `k`, which are `ways`.
-fn close_row(w: &mut [u32; NEXT], a: usize, k: usize, ways: &[u32; 8])
+fn close_row(w: &mut [u32; ITEMS], a: usize, k: usize, ways: &[u32; 8])
     requires { (a < 256) × (k < 256) × HoldsWays w.old k ways.now }
     ensures { RowClosed w.old w.new a k }
 {
@@ -71,7 +71,7 @@ fn close_row(w: &mut [u32; NEXT], a: usize, k: usize, ways: &[u32; 8])
 }
 
 // One round of Warshall's closure: ways by way of `k`, whose ways are the same throughout.
-fn close_round(w: &mut [u32; NEXT], n: usize, k: usize)
+fn close_round(w: &mut [u32; ITEMS], n: usize, k: usize)
     requires { (n ≤ 256) × (k < n) }
     ensures { RoundClosed w.old w.new n k }
 {
@@ -82,7 +82,7 @@ fn close_round(w: &mut [u32; NEXT], n: usize, k: usize)
 }
 
 // The closure of the links, which stand where the ways are to stand.
-fn close(w: &mut [u32; NEXT], n: usize)
+fn close(w: &mut [u32; ITEMS], n: usize)
     requires { n ≤ 256 }
     ensures { Closed w.old w.new n }
 {
@@ -92,7 +92,7 @@ fn close(w: &mut [u32; NEXT], n: usize)
 }
 
 // The ways of the links.
-fn reach_ways(w: &mut [u32; NEXT], n: usize)
+fn reach_ways(w: &mut [u32; ITEMS], n: usize)
     requires { (n ≤ 256) × NoWays w.old }
     ensures { WaysReached w.old w.new n }
 {
@@ -106,17 +106,17 @@ fn reach_ways(w: &mut [u32; NEXT], n: usize)
 
 // The links and the ways of a log, in words that are zero.
 pub fn reachability(log: Log, w: &mut [u32])
-    requires { (log.episodes ≤ 256) × (next_at ≤ length w.old) × NoneMarked w.old }
+    requires { (log.episodes ≤ 256) × (items_at ≤ length w.old) × NoneMarked w.old }
     ensures { ReachedLog log.entry.words.now w.old w.new }
 {
-    let front = w.first_chunk_mut::<NEXT>().unwrap();
+    let front = w.first_chunk_mut::<ITEMS>().unwrap();
     mark_links(log, front);
     reach_ways(front, log.episodes);
 }
 
 // The first episode that has a way to itself.
 pub fn first_loop(w: &[u32], n: usize) -> Option<usize>
-    requires { (next_at ≤ length w.now) × (n ≤ 256) }
+    requires { (items_at ≤ length w.now) × (n ≤ 256) }
     ensures first { FirstLoop w.now n (episode_or n result) }
     ensures below { IfSome result (λ v. v < n) }
 {

@@ -6,12 +6,13 @@ ghost use Rattle.std.specs.Prelude.{◌≡◌, List, ℕ, ◌+◌, ◌<◌, ◌�
 ghost use Rattle.std.specs.Borrow.{MutBor};
 ghost use Rattle.paths.specs.Graph.{Graph, Loop};
 ghost use Rattle.logs.specs.Answer.{given, result_answer, reason_number};
-ghost use Rattle.logs.specs.Log.{service, graph_of, PassesWith};
+ghost use Rattle.logs.specs.Log.{service, graph_of, voices_count, PassesWith};
 ghost use Rattle.writing.specs.Layout.{report_need};
-ghost use Rattle.report.specs.Report.{work_words, lent, asked, Left};
+ghost use Rattle.writing.specs.Writing.{ReportRoom};
+ghost use Rattle.report.specs.Report.{work_words, lent, asked, report_needs, Left};
 ghost use Rattle.report.specs.Solving.{Ready, LoopSought, Answered};
 
-use bits::{USED, WAYS};
+use bits::{ITEMS, NEXT, STARTS, VOICES};
 use logs::{Ceilings, Log, Reason, Refusal};
 use std::fmt;
 
@@ -50,12 +51,17 @@ impl fmt::Display for Outcome {
     }
 }
 
-// The output words that a report on `n` episodes needs.
-fn report_need(n: usize) -> usize
+// The output words that a report needs on a log with `n` episodes and so many voices words.
+fn report_need(n: usize, voices_words: usize) -> usize
     requires { n < 256 }
-    ensures { result ≡ report_need n }
+    ensures { result ≡ report_need n voices_words }
 {
-    2 + 2 * n + (n + 1) * (n + 1) / 4
+    let square = (n + 1) * (n + 1) / 4;
+    if voices_words == 0 {
+        2 + 2 * n + square
+    } else {
+        2 + 3 * n + 2 * square
+    }
 }
 
 // Questions 11 and 12, of lent buffers with so many words, where the output needs `need`.
@@ -71,27 +77,31 @@ pub fn lent(need: usize, output: usize, work: usize) -> Result<(), Refusal>
     Ok(())
 }
 
-// Questions 1 to 12 and 18 of a call on a log, at a caller's ceilings, with so many words lent; the output needs the words that `need` gives for n
-// and the count of to words.
+// Questions 1 to 12 and 18 to 21 of a call on a log, at a caller's ceilings, with so many words lent; the output needs the words that `need` gives for
+// n, the count of to words and that of voices words.
 #[tactic(auto, using(crate::proofs::Asked::asked_read, crate::proofs::Asked::asked_denied, logs::proofs::Laws::few_episodes))]
-pub fn call_asked<F: FnOnce(usize, usize) -> usize>(
+pub fn call_asked<F: FnOnce(usize, usize, usize) -> usize>(
     most: Ceilings,
     words: &[u32],
     output: usize,
     work: usize,
     need: F,
 ) -> Result<Log<'_>, Refusal>
-    requires { (n t : ℕ) → PassesWith words.now n t → n ≤ most.episodes → F.pre need n t }
-    ensures answer { (f : ℕ → ℕ → ℕ) → ((n t r : ℕ) → F.post need n t r → r ≡ f n t)
+    requires { (n t : ℕ) → PassesWith words.now n t → n ≤ most.episodes → F.pre need n t (voices_count words.now) }
+    ensures answer { (f : ℕ → ℕ → ℕ → ℕ) → ((n t v r : ℕ) → F.post need n t v r → r ≡ f n t v)
         → result_answer (λ l. (l.episodes, l.to_words)) result ≡ asked most f words.now output work }
     ensures same { IfOk result (λ l. l.words.now ≡ words.now) }
 {
     let log = Log::read(most, words)?;
-    lent(need(log.episodes, log.to_words), output, work)?;
+    lent(
+        need(log.episodes, log.to_words, log.voices_words),
+        output,
+        work,
+    )?;
     Ok(log)
 }
 
-// Questions 1 to 12 and 18 of a report on a log, at a caller's ceilings.
+// Questions 1 to 12 and 18 to 21 of a report on a log, at a caller's ceilings.
 fn report_asked(
     most: Ceilings,
     words: &[u32],
@@ -99,22 +109,25 @@ fn report_asked(
     work: usize,
 ) -> Result<Log<'_>, Refusal>
     requires { most.episodes < 256 }
-    ensures answer { result_answer (λ l. (l.episodes, l.to_words)) result ≡ asked most (λ n t. report_need n) words.now output work }
+    ensures answer { result_answer (λ l. (l.episodes, l.to_words)) result ≡ asked most report_needs words.now output work }
     ensures same { IfOk result (λ l. l.words.now ≡ words.now) }
 {
-    call_asked(most, words, output, work, |n, _| report_need(n))
+    call_asked(most, words, output, work, |n, _, v| report_need(n, v))
 }
 
-// The links and the ways of a log, in work words of which those that are used are made zero first.
+// The links, the ways and the voices of a log, in work words. Those of the links and the ways and those of the tables of the search are made zero first;
+// what is kept of items is written whole.
 pub fn prepare(log: Log, w: &mut [u32; WORK_WORDS])
     requires { log.episodes < 256 }
     ensures { Ready (graph_of log.entry.words.now) log.entry.episodes w.new }
 {
-    bits::clear(&mut w[0..USED]);
+    bits::clear(&mut w[0..ITEMS]);
+    bits::clear(&mut w[NEXT..VOICES]);
     reach::reachability(log, w);
+    log.read_voices(&mut w[VOICES..STARTS]);
 }
 
-// The answer to a log: the links and the ways are put into the work words, `answer` is called with n, the output and these, and at last all work words
+// The answer to a log: the links, the ways and the voices are put into the work words, `answer` is called with n, the output and these, and at last all work words
 // are made zero.
 pub fn solve<R, F: FnOnce(usize, &mut [u32], &mut [u32]) -> R>(
     log: Log,
@@ -145,16 +158,18 @@ pub fn show_loop(n: usize, out: &mut [u32], w: &mut [u32]) -> Option<usize>
     Some(writing::write_loop(w, v, out))
 }
 
-// The report or the loop, from the links and the ways in the work words. As in `trimmed_copy`, a loop is shown first; the rest differs.
+// The report or the loop, from the links, the ways and the voices in the work words. As in `trimmed_copy`, a loop is shown first; the rest differs.
 fn answer(n: usize, out: &mut [u32], w: &mut [u32]) -> Outcome
-    requires { ((g : Graph) × Ready g n w.old) × (report_need n ≤ length out.old) }
+    requires { (g : Graph) × Ready g n w.old × ReportRoom g (length out.old) }
     ensures { (g : Graph) → Ready g n w.old → Answered g out.old out.new result }
 {
     if let Some(length) = show_loop(n, out, w) {
         return Outcome::Loop(length);
     }
-    chains::join(w, WAYS, n);
-    Outcome::Report(writing::write_report(w, n, out))
+    let m = items::list(w, n);
+    items::pair(w, n, m);
+    chains::join(w, ITEMS, m);
+    Outcome::Report(writing::write_report(w, n, m, out))
 }
 
 // The report at a caller's ceilings. As in both copies, questions and then an answer: one function that takes both would be as long as all three.

@@ -14,7 +14,7 @@ use Rattle.std.specs.Bool.{MatchBool}
 use Rattle.std.specs.List.{AllWithin, HoldsAt, range_with_len}
 use Rattle.std.proofs.lemmas.List.FromFn.{length-range_with_len, get_or-range_with_len}
 use Rattle.bits.specs.Bits.{bit, BitSet, RowJoined, RowLess, NextNew}
-use Rattle.bits.specs.Work.{links_at, ways_at, Matrix, Outside, next_at}
+use Rattle.bits.specs.Work.{links_at, ways_at, Matrix, Outside, items_at}
 use Rattle.bits.proofs.Rows.{bit_lt, bits_zero, bit_less, new_bit}
 use Rattle.bits.proofs.Parts.{put_length, put_before, put_behind, bit_put}
 use Rattle.bits.proofs.Frames.{outside_none, outside_then, outside_wider, set_outside, joined_outside}
@@ -276,7 +276,7 @@ module _ {w v w' linked : List ℕ} {a b : ℕ} (ha : a < 256) (t : EndsTaken w 
 
 -- After the rows from `a` on.
 pub record InRising (w w' linked : List ℕ) (n a : ℕ) : Type 0 where
-  pub outside : Outside ways_at next_at w w'
+  pub outside : Outside ways_at items_at w w'
   pub at_most : a ≤ n
   pub row : length linked ≡ 8
   pub noted : (g : Graph) → EndsBelow g → g.n ≡ n → LinksRise g → Matrix links_at w (Link g) → LinkedFrom g a linked
@@ -286,7 +286,7 @@ pub record InRising (w w' linked : List ℕ) (n a : ℕ) : Type 0 where
 pub rising_start : (w linked : List ℕ) (n : ℕ) → length linked ≡ 8 → NoWays w → InRising w w linked n n
 rising_start w linked n eight zeros =
     record {
-      outside = outside_none ways_at next_at w;
+      outside = outside_none ways_at items_at w;
       at_most = omega arith;
       row = eight;
       noted = λ g ends e rise l a b h k. let p : a < g.n = (ends a b k).0 in absurd (omega arith);
@@ -312,7 +312,7 @@ rising_row w w' w'' linked linked' n a b e hb s r k =
           r.ways g rise (rw e at (s.noted g ends f rise l)) (matrix_before (omega arith) s.outside l) (rw e at (s.ways g ends f rise l));
     }
   where
-    still : Outside ways_at next_at w w''
+    still : Outside ways_at items_at w w''
     still = outside_then s.outside r.outside
 
     noted : (g : Graph) → LinksRise g → Matrix links_at w'' (Link g) → LinkedFrom g a linked → (c d : ℕ) → b ≤ c → Link g c d → Dec (c ≡ b)

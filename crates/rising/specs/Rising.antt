@@ -2,11 +2,11 @@
 use Rattle.std.specs.Prelude.{◌≡◌, Bool, true, false, List, ℕ, ◌+◌, ◌*◌, ◌≤◌, ◌<◌, length, get_or}
 use Rattle.paths.specs.Graph.{Graph, EndsBelow, Link, Way}
 use Rattle.bits.specs.Bits.{bit}
-use Rattle.bits.specs.Work.{links_at, ways_at, Matrix, Outside, next_at}
+use Rattle.bits.specs.Work.{links_at, ways_at, Matrix, Outside, items_at}
 
 -- the words of the ways are zero
 abbrev pub NoWays : List ℕ → Type 0
-NoWays w = (i : ℕ) → ways_at ≤ i → i < next_at → get_or w i 0 ≡ 0
+NoWays w = (i : ℕ) → ways_at ≤ i → i < items_at → get_or w i 0 ≡ 0
 
 -- in the first `n` rows of the links each bit is that of a higher number
 abbrev pub BitsRise : List ℕ → ℕ → Type 0
@@ -42,7 +42,7 @@ LinkedFrom g k linked = (a b : ℕ) → k ≤ a → Link g a b → bit linked 0 
 
 -- from the ways from episodes above `a` to those from `a` on, where links rise
 pub record RowReached (w w' : List ℕ) (a : ℕ) (linked : List ℕ) : Type 0 where
-  pub outside : Outside ways_at next_at w w'
+  pub outside : Outside ways_at items_at w w'
   pub ways : (g : Graph) → LinksRise g → LinkedFrom g (a + 1) linked → Matrix links_at w (Link g) → Matrix ways_at w (WayFrom g (a + 1))
       → Matrix ways_at w' (WayFrom g a)
 
@@ -55,5 +55,5 @@ pub record LinkNoted (w : List ℕ) (a : ℕ) (linked linked' : List ℕ) : Type
 
 -- from the links to the ways, where links rise
 pub record RisingReached (w w' : List ℕ) (n : ℕ) : Type 0 where
-  pub outside : Outside ways_at next_at w w'
+  pub outside : Outside ways_at items_at w w'
   pub ways : (g : Graph) → EndsBelow g → g.n ≡ n → LinksRise g → Matrix links_at w (Link g) → Matrix ways_at w' (Way g)

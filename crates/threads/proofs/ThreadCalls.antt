@@ -12,9 +12,9 @@ use Rattle.parsing.specs.Parsing.{Room}
 use Rattle.parsing.proofs.Wholes.{report_head, thread_steps}
 
 module _ (ws : List ℕ) (i : ℕ) where
-  -- a whole report's width is the number of its threads
+  -- word 0 of a whole report has the number of its threads
   pub count_of : (apart : List ℕ) (threads : List (List ℕ)) → IsReport ws apart threads → length threads ≡ number (get_or ws 0 0)
-  count_of apart threads report = report.same ∙ sym (report_head ws apart threads report).1
+  count_of apart threads report = sym (report_head ws apart threads report).1
 
   pub has_below : HasThread ws i → i < number (get_or ws 0 0)
   has_below (apart, threads, report, lt) = omega (arith, count_of apart threads report)

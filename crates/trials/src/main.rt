@@ -20,5 +20,9 @@ fn main(rt: HostRuntime) -> io::Result<()> {
     full::last_too_large(&rt)?;
     full::pairs(&rt)?;
     full::chains(&rt)?;
-    full::single_episodes(&rt)
+    full::single_episodes(&rt)?;
+    full::duets(&rt)?;
+    full::chain_of_duets(&rt)?;
+    full::doors(&rt)?;
+    full::longest(&rt)
 }

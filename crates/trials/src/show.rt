@@ -92,11 +92,23 @@ impl Trial<'_> {
 // The answer of the reading.
 fn reading(rt: &impl Print, words: &[u32]) -> io::Result<()> {
     match logs::read(words) {
-        Ok(Reading { episodes, to_words }) => {
-            print!(rt; "episodes {episodes} to words {to_words}")
-        }
+        Ok(reading) => figures(rt, reading),
         Err(refusal) => print!(rt; "{refusal}"),
     }
+}
+
+// The figures of a reading; the count of voices words where there are some.
+fn figures(rt: &impl Print, reading: Reading) -> io::Result<()> {
+    let Reading {
+        episodes,
+        to_words,
+        voices_words,
+    } = reading;
+    print!(rt; "episodes {episodes} to words {to_words}")?;
+    if voices_words == 0 {
+        return Ok(());
+    }
+    print!(rt; " voices words {voices_words}")
 }
 
 // The link count.

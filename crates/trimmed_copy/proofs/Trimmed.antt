@@ -37,7 +37,7 @@ pub record TrimGiven (m : Ceilings) (l o w o' w' : List ℕ) (c : ℕ) : Type 0 
 module _ (m : Ceilings) (l o w o' w' : List ℕ) where
   -- a log whose questions are answered yes passes the reading
   passes_read : TrimPasses m l (length o) (length w) → questions m l ≡ given ((graph_of l).n, heard_count l)
-  passes_read passes = (asked_given m (λ n t. fair_need t) l (length o) (length w) (graph_of l).n (heard_count l) passes).0
+  passes_read passes = (asked_given m (λ n t v. fair_need t v) l (length o) (length w) (graph_of l).n (heard_count l) passes).0
 
   trimmed_left : (c : ℕ) → TrimLeft m l o w o' w' (Ok c) → TrimGiven m l o w o' w' c
   unfolding TrimLeft
@@ -77,7 +77,7 @@ module _ (m : Ceilings) (l o w o' w' : List ℕ) where
   pub refused_left : (r : Result ℕ Refusal) (k : ℕ) → TrimLeft m l o w o' w' r → trim_answer r ≡ refused 13 k
       → TrimPasses m l (length o) (length w) × ShowsLoop (graph_of l) k o o' × (w' ≡ cleared w)
   refused_left r k left e =
-      let (passes, shown) = outcomes.refused_loop (asked_other m (λ n t. fair_need t) l (length o) (length w)) (leaves r left) k e in
+      let (passes, shown) = outcomes.refused_loop (asked_other m (λ n t v. fair_need t v) l (length o) (length w)) (leaves r left) k e in
       (passes, shown.0, shown.1)
 
   -- a log without a loop, whose questions are answered yes, is copied

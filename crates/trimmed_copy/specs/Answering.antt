@@ -1,6 +1,6 @@
--- What is answered from the links and the ways in the work words.
-use Rattle.std.specs.Prelude.{◌≡◌, Result, Ok, Err, List, ℕ, ◌+◌, ◌≤◌, length}
-use Rattle.paths.specs.Graph.{Graph, Loop as Cycle}
+-- What is answered from the links, the ways and the voices in the work words.
+use Rattle.std.specs.Prelude.{◌≡◌, Result, Ok, Err, List, ℕ, ◌+◌, ◌^◌, ◌≤◌, ◌<◌, length}
+use Rattle.paths.specs.Graph.{Graph, Episode, Loop as Cycle}
 use Rattle.logs.specs.Words.{Small}
 use Rattle.logs.specs.declared.Refusal.{Refusal}
 use Rattle.logs.specs.declared.Reason.TheVariants.{Loop}
@@ -8,9 +8,10 @@ use Rattle.trimming.specs.TrimmedCopy.{trimmed_words}
 use Rattle.report.specs.Report.{ShowsLoop}
 use Rattle.trimmed_copy.specs.Trimmed.{ShowsTrimmed}
 
--- `k` words have room for the trimmed copy of `g` and for each of its loops, and a word for the count of its links
+-- `k` words have room for the trimmed copy of `g` and for each of its loops, and words for the count of its links and for voices
 pub record Room (g : Graph) (k : ℕ) : Type 0 where
   pub small : Small (length g.links)
+  pub small_voices : (v : ℕ) → Episode g v → g.voices v < 2 ^ 12
   pub copy : length (trimmed_words g) ≤ k
   pub loop : (c : List ℕ) → Cycle g c → length c + 1 ≤ k
 

@@ -14,7 +14,7 @@ use Rattle.fair_copy.specs.Copied.{copy_asked}
 abbrev pub trim_answer : Result ℕ Refusal → Answer ℕ
 trim_answer = result_answer (λ c. c)
 
--- questions 1 to 12 and 18, which are those of a fair copy call, are answered yes
+-- questions 1 to 12 and 18 to 21, which are those of a fair copy call, are answered yes
 abbrev pub TrimPasses : Ceilings → List ℕ → ℕ → ℕ → Type 0
 TrimPasses m l out work = copy_asked m l out work ≡ given ((graph_of l).n, heard_count l)
 

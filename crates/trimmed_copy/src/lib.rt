@@ -10,7 +10,7 @@ ghost use Rattle.trimmed_copy.specs.Answering.{Room, TrimAnswered};
 
 use logs::{Ceilings, Reason, Refusal};
 
-// The trimmed copy or the loop, from the links and the ways in the work words. As in `report`, a loop is shown first.
+// The trimmed copy or the loop, from the links, the ways and the voices in the work words. As in `report`, a loop is shown first.
 fn answer(n: usize, out: &mut [u32], w: &mut [u32]) -> Result<usize, Refusal>
     requires { (g : Graph) × Ready g n w.old × Room g (length out.old) }
     ensures { (g : Graph) → Ready g n w.old → Room g (length out.old)

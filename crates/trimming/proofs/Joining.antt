@@ -1,7 +1,7 @@
 -- The row of what is implied, link by link: it has the ways of the links so far, and is closed under ways, so that a link that is in it has
 -- nothing to add.
-use mathlib.Core.Path.{◌≡◌, refl, sym, ap, ◌∙◌}
-use mathlib.Core.Logic.{◌⊎◌, inl, inr, ⊎_elim}
+use mathlib.Core.Path.{◌≡◌, sym, ap, ◌∙◌}
+use mathlib.Core.Logic.{⊎_elim}
 use mathlib.Core.List.{List}
 use Prim.Native.Nat.{ℕ, ◌+◌, ◌-◌, ◌*◌, ◌/◌, ◌≤◌, ◌<◌}
 use native.Mathlib.Decide.{ℕ_discrete, dec_lt}
@@ -10,81 +10,10 @@ use lib.ListN.{length, get_or, replicate, get_or-replicate}
 use Rattle.paths.specs.Graph.{Graph, Link, Way}
 use Rattle.paths.specs.Trimmed.{Implied}
 use Rattle.paths.proofs.Ways.{way_trans}
-use Rattle.bits.specs.Bits.{digit, bit, RowAdded}
-use Rattle.bits.specs.Ones.{LowestTaken}
+use Rattle.bits.specs.Bits.{digit, bit, RowsAdded}
 use Rattle.bits.specs.Work.{links_at, ways_at, Matrix}
-use Rattle.bits.proofs.Digits.{Rest, rest_start, rest_here, rest_on, rest_none, rest_end}
 use Rattle.bits.proofs.Rows.{bit_lt, bits_zero, new_word}
-use Rattle.trimming.specs.Trimming.{Held, WaysAdded, HoldsImplied}
-
--- ---- the rows of the bits of a word joined
-
--- after the digits below `k`
-pub record Taking (w : List ℕ) (x first : ℕ) (v v' : List ℕ) (rest : ℕ) : Type 0 where
-  pub same_length : length v' ≡ length v
-  k : ℕ
-  pub digits : Rest x rest k
-  old : (c : ℕ) → c < 256 → bit v 0 c ≡ 1 → bit v' 0 c ≡ 1
-  new : (j c : ℕ) → j < k → c < 256 → digit x j ≡ 1 → bit w (ways_at + 8 * (first + j)) c ≡ 1 → bit v' 0 c ≡ 1
-  no_other : (c : ℕ) → c < 256 → bit v' 0 c ≡ 1
-      → (bit v 0 c ≡ 1) ⊎ ((j : ℕ) × (j < 32) × (digit x j ≡ 1) × (bit w (ways_at + 8 * (first + j)) c ≡ 1))
-
-pub taking_start : (w : List ℕ) (x first : ℕ) (v : List ℕ) → Taking w x first v v x
-taking_start w x first v =
-    record {
-      same_length = refl;
-      k = 0;
-      digits = rest_start x;
-      old = λ c hc o. o;
-      new = λ j c l. absurd (omega arith);
-      no_other = λ c hc o. inl o;
-    }
-
--- the row of the lowest digit of `rest`, which starts at word `row`, is joined
-module _ {w v v' u : List ℕ} {x first rest row b less : ℕ} (s : Taking w x first v v' rest) (t : LowestTaken rest b less)
-    (place : row ≡ ways_at + 8 * (first + b)) (q : RowAdded w row v' u) where
-  kept : (c : ℕ) → c < 256 → bit v' 0 c ≡ 1 → bit u 0 c ≡ 1
-  kept c hc o = omega (arith, q.joined c hc, bit_lt w row c)
-
-  here : (c : ℕ) → c < 256 → bit w row c ≡ 1 → bit u 0 c ≡ 1
-  here c hc o = omega (arith, q.joined c hc, bit_lt v' 0 c)
-
-  pub taking_on : Taking w x first v u less
-  taking_on =
-      record {
-        same_length = q.same_length ∙ s.same_length;
-        k = b + 1;
-        digits = rest_on s.digits t;
-        old = λ c hc o. kept c hc (s.old c hc o);
-        new = λ j c l hc d o. new j c l hc d o (dec_lt j s.k) (ℕ_discrete j b);
-        no_other = λ c hc o. no_other c hc o (ℕ_discrete (bit v' 0 c) 1);
-      }
-    where
-      new : (j c : ℕ) → j < b + 1 → c < 256 → digit x j ≡ 1 → bit w (ways_at + 8 * (first + j)) c ≡ 1 → Dec (j < s.k) → Dec (j ≡ b) → bit u 0 c ≡ 1
-      new j c l hc d o (yes h) e = kept c hc (s.new j c h hc d o)
-      new j c l hc d o (no h) (yes e) = here c hc (rw (place, sym e) o)
-      new j c l hc d o (no h) (no ne) =
-          let z = rest_none s.digits t j (omega arith) (omega (arith, ne)) in
-          absurd (omega arith)
-
-      no_other : (c : ℕ) → c < 256 → bit u 0 c ≡ 1 → Dec (bit v' 0 c ≡ 1)
-          → (bit v 0 c ≡ 1) ⊎ ((j : ℕ) × (j < 32) × (digit x j ≡ 1) × (bit w (ways_at + 8 * (first + j)) c ≡ 1))
-      no_other c hc o (yes e) = s.no_other c hc e
-      no_other c hc o (no ne) =
-          inr (b, t.below, rest_here s.digits t, rw (sym place) (omega (arith, ne, q.joined c hc, bit_lt v' 0 c, bit_lt w row c)))
-
-pub taking_end : {w v v' : List ℕ} {x first rest : ℕ} → Taking w x first v v' rest → rest ≡ 0 → WaysAdded w x first v v'
-taking_end {w} {v} {v'} {x} {first} s e =
-    record {
-      same_length = s.same_length;
-      old = s.old;
-      new = λ j c l hc d o. new j c l hc d o (dec_lt j s.k);
-      no_other = s.no_other;
-    }
-  where
-    new : (j c : ℕ) → j < 32 → c < 256 → digit x j ≡ 1 → bit w (ways_at + 8 * (first + j)) c ≡ 1 → Dec (j < s.k) → bit v' 0 c ≡ 1
-    new j c l hc d o (yes h) = s.new j c h hc d o
-    new j c l hc d o (no h) = let z = rest_end s.digits e j (omega arith) in absurd (omega arith)
+use Rattle.trimming.specs.Trimming.{Held, HoldsImplied}
 
 -- ---- all links of an episode
 
@@ -115,7 +44,11 @@ noting_start w v from e =
 
 -- the ways of one more word of links, less those that are implied, are joined
 module _ {w v v' : List ℕ} {from i x : ℕ} (within : from + 8 ≤ ways_at) (hi : i < 8) (s : Noting w v from i)
-    (new : (j : ℕ) → digit x j ≡ digit (get_or w (from + i) 0) j - digit (get_or v i 0) j) (q : WaysAdded w x (32 * i) v v') where
+    (new : (j : ℕ) → digit x j ≡ digit (get_or w (from + i) 0) j - digit (get_or v i 0) j) (q : RowsAdded w (ways_at + 256 * i) x v v') where
+  -- the row of ways that a digit names
+  row_of : (j c : ℕ) → bit w (ways_at + 256 * i + 8 * j) c ≡ bit w (ways_at + 8 * (32 * i + j)) c
+  row_of j c = ap (λ (row : ℕ). bit w row c) (omega arith)
+
   -- a digit is one where there is a link that is not implied
   new_digit : (j : ℕ) → j < 32 → digit x j ≡ bit w from (32 * i + j) - bit v 0 (32 * i + j)
   new_digit = new_word w v from 0 i x (let e : 0 + i ≡ i = omega arith in rw e new)
@@ -132,13 +65,15 @@ module _ {w v v' : List ℕ} {from i x : ℕ} (within : from + 8 ≤ ways_at) (h
         sound = λ c hc o.
             ⊎_elim (r.sound c hc)
             (λ (j, hj, d, y).
-            (32 * i + j, links.sound a (32 * i + j) ha (omega arith) (rw p at (fresh_link j hj d)), ways.sound (32 * i + j) c (omega arith) hc y))
+            (32 * i + j, links.sound a (32 * i + j) ha (omega arith) (rw p at (fresh_link j hj d)), ways.sound (32 * i + j) c (omega arith) hc (sym (row_of j c) ∙ y)))
             (q.no_other c hc o);
         closed = λ c d hc hd o y.
             ⊎_elim (λ e. q.old d hd (r.closed c d hc hd e y))
             (λ (j, hj, e, z).
             q.new j d hj hd e
-            (ways.complete (32 * i + j) d (omega arith) hd (way_trans (32 * i + j) c d (ways.sound (32 * i + j) c (omega arith) hc z) y)))
+            (row_of j d
+            ∙ ways.complete (32 * i + j) d (omega arith) hd
+            (way_trans (32 * i + j) c d (ways.sound (32 * i + j) c (omega arith) hc (sym (row_of j c) ∙ z)) y)))
             (q.no_other c hc o);
         taken = λ x d hx lx hd l y. taken x d hx lx hd l y (dec_lt x (32 * i));
       }
@@ -167,7 +102,7 @@ module _ {w v v' : List ℕ} {from i x : ℕ} (within : from + 8 ≤ ways_at) (h
           go (no ne) =
               q.new (x - 32 * i) d (omega arith) hd
               (link_fresh (x - 32 * i) (omega arith) (rw (p, place) (links.complete a x ha lx l)) (rw place (omega (arith, ne, bit_lt v 0 x))))
-              (rw place (ways.complete x d lx hd y))
+              (row_of (x - 32 * i) d ∙ rw place (ways.complete x d lx hd y))
 
   pub noting_on : Noting w v' from (i + 1)
   noting_on = record { size = q.same_length ∙ s.size; row = row_on }

@@ -1,4 +1,4 @@
--- The graph of the links that stay.
+-- The graph of the links that stay, with the voices as they were.
 use mathlib.Core.Path.{refl}
 use Prim.Native.Nat.{ℕ, ◌≤◌}
 use lib.ListN.{length}
@@ -15,13 +15,14 @@ module _ (g : Graph) where
   trimmed_is =
       record {
         episodes = refl;
+        voices = λ v h. refl;
         links = λ a b. (
           λ m. (filter_sound (λ (l : ℕ × ℕ). stays_decidable g l.0 l.1) g.links m).1,
           λ s. filter_complete (λ (l : ℕ × ℕ). stays_decidable g l.0 l.1) g.links s.link s,
         );
       }
 
-  -- and not more than there were
+  -- and not more links than there were
   pub trimmed_few : length (trimmed g).links ≤ length g.links
   unfolding trimmed
   trimmed_few = filter_length (λ (l : ℕ × ℕ). stays_decidable g l.0 l.1) g.links

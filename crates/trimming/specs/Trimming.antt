@@ -1,29 +1,24 @@
 -- What the steps to a trimmed copy leave.
-use Rattle.std.specs.Prelude.{◌≡◌, ◌⊎◌, ◌↔◌, Bool, ◌&&◌, List, ℕ, ◌+◌, ◌*◌, ◌≤◌, ◌<◌, eqb, length}
+use Rattle.std.specs.Prelude.{◌≡◌, ◌↔◌, Bool, ◌&&◌, List, ℕ, ◌+◌, ◌*◌, ◌^◌, ◌≤◌, ◌<◌, eqb, length}
 use Rattle.paths.specs.Graph.{Graph, EndsBelow, Link, Way}
 use Rattle.paths.specs.Passing.{passing}
 use Rattle.paths.specs.Trimmed.{Implied}
 use Rattle.logs.specs.Words.{Small, to_word}
 use Rattle.bits.specs.Bits.{digit, bit}
-use Rattle.bits.specs.Work.{links_at, ways_at, next_at, Matrix}
+use Rattle.bits.specs.Work.{links_at, ways_at, used_words, Matrix}
+use Rattle.items.specs.Listed.{voices_in}
 
--- the work words hold the links and the ways of a graph with `n` episodes, and a word can hold the count of its links
+-- the work words hold the links, the ways and the voices of a graph with `n` episodes, and words can hold these and the count of the links
 pub record Held (g : Graph) (n : ℕ) (w : List ℕ) : Type 0 where
   pub count : g.n ≡ n
   pub few : n ≤ 256
   pub small : Small (length g.links)
-  pub long : next_at ≤ length w
+  pub long : used_words ≤ length w
   pub ends : EndsBelow g
   pub links : Matrix links_at w (Link g)
   pub ways : Matrix ways_at w (Way g)
-
--- the row of bits `v'` has besides those of `v` the ways of `first + j`, for each digit `j` of `x` that is one
-pub record WaysAdded (w : List ℕ) (x first : ℕ) (v v' : List ℕ) : Type 0 where
-  pub same_length : length v' ≡ length v
-  pub old : (c : ℕ) → c < 256 → bit v 0 c ≡ 1 → bit v' 0 c ≡ 1
-  pub new : (j c : ℕ) → j < 32 → c < 256 → digit x j ≡ 1 → bit w (ways_at + 8 * (first + j)) c ≡ 1 → bit v' 0 c ≡ 1
-  pub no_other : (c : ℕ) → c < 256 → bit v' 0 c ≡ 1
-      → (bit v 0 c ≡ 1) ⊎ ((j : ℕ) × (j < 32) × (digit x j ≡ 1) × (bit w (ways_at + 8 * (first + j)) c ≡ 1))
+  pub voices : (v : ℕ) → v < n → voices_in w v ≡ g.voices v
+  pub small_voices : (v : ℕ) → v < n → g.voices v < 2 ^ 12
 
 -- the row of bits `v` has what is implied of the links of `a`
 abbrev pub HoldsImplied : List ℕ → ℕ → List ℕ → Type 0

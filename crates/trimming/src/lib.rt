@@ -1,6 +1,6 @@
-// The trimmed copy of a log, row by row: what the ways of an episode's links hold together is implied, and its links less that are written, to a lent
-// output, since nothing is allocated; what is written is counted. The matrices stand among other words, so the contracts say that they are within
-// them; `g` there is every graph that stands in the words.
+// The trimmed copy of a log: the voices words, then the groups, row by row: what the ways of an episode's links hold together is implied, and its links
+// less that are written, to a lent output, since nothing is allocated; what is written is counted. The matrices stand among other words, so the
+// contracts say that they are within them; `g` there is every graph that stands in the words.
 #![tactic(auto)]
 
 ghost use Rattle.std.specs.Prelude.{◌≡◌, Bool, List, ℕ, ◌+◌, ◌*◌, ◌<◌, ◌≤◌, length, replicate};
@@ -12,21 +12,10 @@ ghost use Rattle.writing.proofs.Listing.{Listing};
 ghost use Rattle.copying.specs.FairCopy.{linked_to, group};
 ghost use Rattle.copying.specs.Copying.{LinksWritten};
 ghost use Rattle.trimming.specs.TrimmedCopy.{trimmed, no_pause, trimmed_words};
-ghost use Rattle.trimming.specs.Trimming.{Held, WaysAdded, HoldsImplied, kept_to, to_unpaused, TellsDigits};
+ghost use Rattle.trimming.specs.Trimming.{Held, HoldsImplied, kept_to, to_unpaused, TellsDigits};
 
-use bits::{LINKS, WAYS};
+use bits::{LINKS, VOICES, WAYS};
 use logs::{Head, Kind};
-
-// Joins into `implied` the ways of the episodes that are the bits of `links`, counted from `first` on.
-fn join_ways(w: &[u32], links: u32, first: usize, implied: &mut [u32; 8])
-    requires { (next_at ≤ length w.now) × (first + 32 ≤ 256) }
-    ensures { WaysAdded w.now links first implied.old implied.new }
-{
-    let ways = WAYS + 8 * first;
-    for bit in bits::ones_of(links) {
-        bits::join_into(w, ways + 8 * bit, implied);
-    }
-}
 
 // Notes what is implied of the links in the row that starts at word `row`: joins the ways of each. A link that is implied itself has no way
 // that is not noted.
@@ -36,7 +25,8 @@ fn note_implied(w: &[u32], row: usize, implied: &mut [u32; 8])
 {
     // `implied` by place, since each turn joins into it.
     for (i, links) in w[row..row + 8].iter().enumerate() {
-        join_ways(w, bits::without(*links, implied[i]), 32 * i, implied);
+        let fresh = bits::without(*links, implied[i]);
+        bits::join_rows(w, WAYS + 256 * i, fresh, implied);
     }
 }
 
@@ -80,15 +70,16 @@ fn trim_row(w: &[u32], n: usize, a: usize, out: &mut [u32]) -> usize
     write_row(w, row, &implied, out)
 }
 
-// Writes the trimmed copy, of version 0, of a graph with `n` episodes, from its links and ways, and gives its count of words.
+// Writes the trimmed copy, of version 0, of a graph with `n` episodes, from its links, ways and voices, and gives its count of words.
 pub fn write_trimmed(w: &[u32], n: usize, out: &mut [u32]) -> usize
     requires { (g : Graph) × Held g n w.now × (length (trimmed_words g) ≤ length out.old) }
     ensures { (g : Graph) → Held g n w.now → length (trimmed_words g) ≤ length out.old
         → (result ≡ length (trimmed_words g)) × BeginsWith (trimmed_words g) out.old out.new }
 {
+    let start = copying::write_voices(&w[VOICES..VOICES + n], out);
     let head = Head {
         version: 0,
         episodes: n,
     };
-    copying::write_by_rows(head, out, |a, rest| trim_row(w, n, a, rest))
+    copying::write_by_rows(head, start, out, |a, rest| trim_row(w, n, a, rest))
 }

@@ -1,4 +1,4 @@
--- A thread that is being written: the chain's episodes up to one, with the links of paths between them.
+-- A thread that is being written: the owners of a chain's items up to one, with the links of paths between them.
 use Rattle.std.proofs.Math.Logic.{∥∥₁_elim}
 use Rattle.std.proofs.Props.{props}
 use mathlib.Core.Path.{◌≡◌, refl, sym, ap, subst, ◌∙◌}
@@ -20,7 +20,8 @@ use Prim.Native.Nat.{ℕ, ◌+◌, ◌-◌, ◌*◌, ◌≤◌, ◌<◌}
 use native.Mathlib.Omega.{arith}
 use lib.ListN.{length, get_or, set, take, drop, length-map, length-append, length-drop}
 use Rattle.order.specs.Order.{Chain, more}
-use Rattle.paths.specs.Graph.{Graph, Thread}
+use Rattle.paths.specs.Graph.{Graph, Way, Thread}
+use Rattle.paths.specs.Items.{item_count, owner}
 use Rattle.paths.proofs.Threads.{thread_single}
 use Rattle.paths.proofs.Fits.{thread_nodup}
 use Rattle.paths.proofs.Numbers.{nodup_below}
@@ -30,10 +31,12 @@ use Rattle.bits.specs.Work.{ways_at}
 use Rattle.searching.specs.Items.{Matching, Steps}
 use Rattle.searching.specs.State.{tables}
 use Rattle.chains.proofs.Steps.{steps_trans, steps_same, steps_first, steps_last, steps_end, next_below as following_below, steps_below, steps_join}
+use Rattle.items.specs.Listed.{owner_in}
 use Rattle.writing.specs.Layout.{BeginsWith, thread_words}
 use Rattle.writing.specs.Path.{PathWritten}
 use Rattle.writing.specs.Writing.{Solved, IsSolved, StartOf, ThreadWritten}
 use Rattle.writing.proofs.Buffers.{length_snoc, begins_length, begins_first, begins_second, begins_over, begins_part, lent_part, lent_rest}
+use Rattle.writing.proofs.Solved.{owner_lt}
 
 chain_join : {A : Type 0} {R : A → A → Type 0} {a : A} {p : List A} (l : List A) → Chain R (l ++ (a ∷ [])) → Chain R (a ∷ p) → Chain R (l ++ (a ∷ p))
 chain_join [] c d = d
@@ -48,23 +51,27 @@ thread_join {a = a} l t u =
       path = chain_join l t.path u.path;
     }
 
--- The words behind the first are the steps of a thread that ends at `at`. It holds what the start of the chain of `v` leads to, but for what
--- is behind `at`.
-pub record Filling (w : List ℕ) (n v : ℕ) (o o' : List ℕ) (at count : ℕ) : Type 0 where
+-- The words behind the first are the steps of a thread that ends at `at`, the owner of `item`. It holds the owners of what the start of the chain of
+-- `v` leads to, but for what is behind `item`.
+pub record Filling (w : List ℕ) (n m v : ℕ) (o o' : List ℕ) (item at count : ℕ) : Type 0 where
   pub before : List ℕ
   pub first : ℕ
   pub start : ℕ
   pub starts : StartOf w v start
-  pub start_below : start < n
+  pub start_below : start < m
   pub size : count ≡ length before + 2
   pub words : BeginsWith (first ∷ map (word 7) (before ++ (at ∷ []))) o o'
-  pub at_below : at < n
-  pub thread : (g : Graph) → Solved g n w → Thread g (before ++ (at ∷ []))
-  pub holds : (x : ℕ) → Steps (tables w).next start x → Mem x (before ++ (at ∷ [])) ⊎ Steps (tables w).next at x
+  pub item_below : item < m
+  pub owned : at ≡ owner_in w item
+  pub thread : (g : Graph) → Solved g n m w → Thread g (before ++ (at ∷ []))
+  pub holds : (x : ℕ) → Steps (tables w).next start x → Mem (owner_in w x) (before ++ (at ∷ [])) ⊎ Steps (tables w).next item x
 
-module _ {w : List ℕ} {n s : ℕ} (o : List ℕ) (below : s < n) where
-  -- a thread of one step
-  pub filling_starts : {v : ℕ} → StartOf w v s → 1 < length o → Filling w n v (set o 1 (word 7 s)) (set o 1 (word 7 s)) s 2
+module _ {w : List ℕ} {n m s at : ℕ} (o : List ℕ) (below : s < m) (owned : at ≡ owner_in w s) (solved : IsSolved n m w) where
+  -- the owner of an item is a thread of one step
+  single : (g : Graph) → Solved g n m w → Thread g (at ∷ [])
+  single g q = thread_single (rw (q.count, owned) (owner_lt solved s below))
+
+  pub filling_starts : {v : ℕ} → StartOf w v s → 1 < length o → Filling w n m v (set o 1 (word 7 at)) (set o 1 (word 7 at)) s at 2
   filling_starts h l =
       record {
         before = [];
@@ -73,17 +80,18 @@ module _ {w : List ℕ} {n s : ℕ} (o : List ℕ) (below : s < n) where
         starts = h;
         start_below = below;
         size = refl;
-        words = begins_second (word 7 s) o l;
-        at_below = below;
-        thread = λ g q. thread_single (rw q.count below);
+        words = begins_second (word 7 at) o l;
+        item_below = below;
+        owned = owned;
+        thread = single;
         holds = λ x p. inr p;
       }
 
   -- there is room for it
-  pub starts_room : IsSolved n w → ((g : Graph) → Solved g n w → (th : List ℕ) → Thread g th → length th + 1 ≤ length o) → 1 < length o
-  starts_room solved room = ∥∥₁_elim solved (search props) (λ (g, q). room g q (s ∷ []) (thread_single (rw q.count below)))
+  pub starts_room : ((g : Graph) → Solved g n m w → (th : List ℕ) → Thread g th → length th + 1 ≤ length o) → 1 < length o
+  starts_room room = ∥∥₁_elim solved (search props) (λ (g, q). room g q (at ∷ []) (single g q))
 
-module _ {w : List ℕ} {n v : ℕ} {o o' : List ℕ} {at count : ℕ} (f : Filling w n v o o' at count) where
+module _ {w : List ℕ} {n m v : ℕ} {o o' : List ℕ} {item at count : ℕ} (f : Filling w n m v o o' item at count) where
   pub filling_length : length o' ≡ length o
   filling_length = begins_length (f.first ∷ map (word 7) (f.before ++ (at ∷ []))) o o' f.words
 
@@ -95,11 +103,14 @@ module _ {w : List ℕ} {n v : ℕ} {o o' : List ℕ} {at count : ℕ} (f : Fill
       let c = f.size in
       omega arith
 
+  pub at_lt : IsSolved n m w → at < n
+  at_lt solved = rw f.owned (owner_lt solved item f.item_below)
+
   -- the thread of a graph has at most as many steps as there are episodes
-  pub filling_le : IsSolved n w → count ≤ n + 1
+  pub filling_le : IsSolved n m w → count ≤ n + 1
   filling_le solved = ∥∥₁_elim solved (search props) (λ (g, q). le g q)
     where
-      le : (g : Graph) → Solved g n w → count ≤ n + 1
+      le : (g : Graph) → Solved g n m w → count ≤ n + 1
       le g q =
           let th = f.thread g q in
           let le : length (f.before ++ (at ∷ [])) ≤ g.n =
@@ -110,7 +121,7 @@ module _ {w : List ℕ} {n v : ℕ} {o o' : List ℕ} {at count : ℕ} (f : Fill
           omega arith
 
   -- what goes on from `at` fits into the part behind the words
-  pub filling_room : {g : Graph} → Solved g n w → ((th : List ℕ) → Thread g th → length th + 1 ≤ length o) → (p : List ℕ) → Thread g (at ∷ p)
+  pub filling_room : {g : Graph} → Solved g n m w → ((th : List ℕ) → Thread g th → length th + 1 ≤ length o) → (p : List ℕ) → Thread g (at ∷ p)
       → length p ≤ length (take (length o' - count) (drop count o'))
   filling_room {g} q room p t =
       let le = room (f.before ++ (at ∷ p)) (thread_join f.before (f.thread g q) t) in
@@ -120,24 +131,31 @@ module _ {w : List ℕ} {n v : ℕ} {o o' : List ℕ} {at count : ℕ} (f : Fill
       let d = length-drop count o' in
       rw (lent_part o' count) (omega arith)
 
-  module _ {target : ℕ} (next : (tables w).next at ≡ target + 1) where
-    next_below : Matching n (tables w) → target < n
-    next_below m = following_below m f.at_below next
+  -- `next` is the next item of the chain, and `to` its owner
+  module _ (next : ℕ) {to : ℕ} (behind : (tables w).next item ≡ next + 1) (owner_to : to ≡ owner_in w next) where
+    next_below : Matching m (tables w) → next < m
+    next_below k = following_below k f.item_below behind
 
-    -- a way leads to the next of the chain
-    pub next_way : Matching n (tables w) → IsSolved n w → (target < n) × (bit w (ways_at + 8 * at) target ≡ 1)
-    next_way m solved =
-        let below = next_below m in
-        let at_below = f.at_below in (
-          below,
-          ∥∥₁_elim solved (search props)
-              (λ (g, q). q.ways.complete at target (omega (arith, q.few)) (omega (arith, q.few)) (q.pairs at target at_below below next)),
-        )
+    to_lt : Matching m (tables w) → IsSolved n m w → to < n
+    to_lt k solved = rw owner_to (owner_lt solved next (next_below k))
+
+    -- a way leads there
+    pub next_way : Matching m (tables w) → IsSolved n m w → (to < n) × (bit w (ways_at + 8 * at) to ≡ 1)
+    next_way k solved = (to_lt k solved, ∥∥₁_elim solved (search props) (λ (g, q). way g q))
+      where
+        way : (g : Graph) → Solved g n m w → bit w (ways_at + 8 * at) to ≡ 1
+        way g q =
+            let below = next_below k in
+            let pair : Way g (owner g item) (owner g next) = q.pairs item next f.item_below below behind in
+            let a : at ≡ owner g item = f.owned ∙ q.owners item f.item_below in
+            let b : to ≡ owner g next = owner_to ∙ q.owners next below in
+            q.ways.complete at to (omega (arith, at_lt solved, q.few)) (omega (arith, to_lt k solved, q.few))
+            (subst (λ (u : ℕ). Way g u to) (sym a) (subst (λ (u : ℕ). Way g (owner g item) u) (sym b) pair))
 
     -- the steps of a path to it are written behind the others
-    path_more : Matching n (tables w) → (p : List ℕ) (r : ℕ) → PathWritten w (drop count o') p n at target r
-        → Filling w n v o (take count o' ++ p) target (count + r)
-    path_more m p r t =
+    path_more : Matching m (tables w) → (p : List ℕ) (r : ℕ) → PathWritten w (drop count o') p n m at to r
+        → Filling w n m v o (take count o' ++ p) next to (count + r)
+    path_more k p r t =
         record {
           before = f.before ++ (at ∷ t.between);
           first = f.first;
@@ -151,32 +169,36 @@ module _ {w : List ℕ} {n v : ℕ} {o o' : List ℕ} {at count : ℕ} (f : Fill
               omega arith;
           words =
               subst (λ (ws : List ℕ). BeginsWith (f.first ∷ ws) o (take count o' ++ p))
-              (sym (ap (map (word 7)) whole ∙ map-append (word 7) (f.before ++ (at ∷ [])) (t.between ++ (target ∷ []))))
-              (begins_part (f.first ∷ map (word 7) (f.before ++ (at ∷ []))) o o' f.words (map (word 7) (t.between ++ (target ∷ []))) p count
+              (sym (ap (map (word 7)) whole ∙ map-append (word 7) (f.before ++ (at ∷ [])) (t.between ++ (to ∷ []))))
+              (begins_part (f.first ∷ map (word 7) (f.before ++ (at ∷ []))) o o' f.words (map (word 7) (t.between ++ (to ∷ []))) p count
               (sym filling_count) t.words);
-          at_below = next_below m;
+          item_below = next_below k;
+          owned = owner_to;
           thread = λ g' q'.
-              rw (append_assoc f.before (at ∷ t.between) (target ∷ [])) (thread_join f.before (f.thread g' q') (t.of g' q'));
-          holds = λ x h.
-              ⊎_elim (λ k. inl (there x k))
-              (λ k. ⊎_elim (λ e. inl (there x (Memᴰ.append_right f.before (here (sym e))))) inr (steps_first next k)) (f.holds x h);
+              rw (append_assoc f.before (at ∷ t.between) (to ∷ [])) (thread_join f.before (f.thread g' q') (t.of g' q'));
+          holds = λ x h. ⊎_elim (λ i. inl (there (owner_in w x) i)) (λ i. ⊎_elim (λ e. inl (last x e)) inr (steps_first behind i)) (f.holds x h);
         }
       where
-        whole : (f.before ++ (at ∷ t.between)) ++ (target ∷ []) ≡ (f.before ++ (at ∷ [])) ++ (t.between ++ (target ∷ []))
+        whole : (f.before ++ (at ∷ t.between)) ++ (to ∷ []) ≡ (f.before ++ (at ∷ [])) ++ (t.between ++ (to ∷ []))
         whole =
-            append_assoc f.before (at ∷ t.between) (target ∷ [])
-            ∙ sym (append_assoc f.before (at ∷ []) (t.between ++ (target ∷ [])))
+            append_assoc f.before (at ∷ t.between) (to ∷ [])
+            ∙ sym (append_assoc f.before (at ∷ []) (t.between ++ (to ∷ [])))
 
-        there : (x : ℕ) → Mem x (f.before ++ (at ∷ [])) → Mem x ((f.before ++ (at ∷ t.between)) ++ (target ∷ []))
-        there x k = rw whole (Memᴰ.append_left (t.between ++ (target ∷ [])) k)
+        there : (u : ℕ) → Mem u (f.before ++ (at ∷ [])) → Mem u ((f.before ++ (at ∷ t.between)) ++ (to ∷ []))
+        there u i = rw whole (Memᴰ.append_left (t.between ++ (to ∷ [])) i)
+
+        -- the item itself
+        last : (x : ℕ) → item ≡ x → Mem (owner_in w x) ((f.before ++ (at ∷ t.between)) ++ (to ∷ []))
+        last x e = there (owner_in w x) (Memᴰ.append_right f.before (here (ap (owner_in w) (sym e) ∙ sym f.owned)))
 
     -- the same, as the part that was lent comes back
-    pub filling_more : Matching n (tables w) → {p : List ℕ} {r : ℕ} → PathWritten w (take (length o' - count) (drop count o')) p n at target r
-        → Filling w n v o (take count o' ++ (p ++ drop (length o' - count) (drop count o'))) target (count + r)
-    filling_more m {p} {r} t = rw (lent_rest o' p count) (path_more m p r (rw (lent_part o' count) at t))
+    pub filling_more : Matching m (tables w) → {p : List ℕ} {r : ℕ}
+        → PathWritten w (take (length o' - count) (drop count o')) p n m at to r
+        → Filling w n m v o (take count o' ++ (p ++ drop (length o' - count) (drop count o'))) next to (count + r)
+    filling_more k {p} {r} t = rw (lent_rest o' p count) (path_more k p r (rw (lent_part o' count) at t))
 
   -- at the end of the chain
-  pub filling_ends : (tables w).next at ≡ 0 → ThreadWritten w o (set o' 0 (word 6 (count - 1))) n v count
+  pub filling_ends : (tables w).next item ≡ 0 → ThreadWritten w o (set o' 0 (word 6 (count - 1))) n m v count
   unfolding thread_words
   filling_ends z =
       record {
@@ -197,18 +219,18 @@ module _ {w : List ℕ} {n v : ℕ} {o o' : List ℕ} {at count : ℕ} (f : Fill
       s : ℕ
       s = f.start
 
-      last : Mem at th
-      last = Memᴰ.append_right f.before (here refl)
+      last : Mem (owner_in w item) th
+      last = Memᴰ.append_right f.before (here (sym f.owned))
 
-      -- what the start leads to is on the thread
-      behind : (x : ℕ) → Steps (tables w).next s x → Mem x th
+      -- the owners of what the start leads to are on the thread
+      behind : (x : ℕ) → Steps (tables w).next s x → Mem (owner_in w x) th
       behind x p =
-          ⊎_elim (λ m. m)
-          (λ r. subst (λ (y : ℕ). Mem y th) (steps_end z r) last)
+          ⊎_elim (λ i. i)
+          (λ r. subst (λ (y : ℕ). Mem (owner_in w y) th) (steps_end z r) last)
           (f.holds x p)
 
       -- what leads to the start is the start
-      before : (g : Graph) → Solved g n w → (x : ℕ) → x < n → Steps (tables w).next x s → Steps (tables w).next s x
+      before : (g : Graph) → Solved g n m w → (x : ℕ) → x < m → Steps (tables w).next x s → Steps (tables w).next s x
       before g q x h p = go (steps_last p)
         where
           go : (x ≡ s) ⊎ ((d : ℕ) × Steps (tables w).next x d × ((tables w).next d ≡ s + 1)) → Steps (tables w).next s x
@@ -218,20 +240,25 @@ module _ {w : List ℕ} {n v : ℕ} {o o' : List ℕ} {at count : ℕ} (f : Fill
               let b : (tables w).prev s ≡ 0 = f.starts.first in
               absurd (omega arith)
 
-      holds : (g : Graph) → Solved g n w → (x : ℕ) → x < g.n → Steps (tables w).next x v ⊎ Steps (tables w).next v x → Mem x th
-      holds g q x h (inr p) = behind x (steps_trans f.starts.steps p)
-      holds g q x h (inl p) =
-          let lt : x < n = rw q.count at h in
-          behind x (⊎_elim (λ r. r) (before g q x lt) (steps_join q.matching f.start_below lt f.starts.steps p))
+      holds : (g : Graph) → Solved g n m w → (x : ℕ) → x < item_count g → Steps (tables w).next x v ⊎ Steps (tables w).next v x → Mem (owner g x) th
+      holds g q x h o = Memᴰ.cast (sym (q.owners x lt)) (behind x (from o))
+        where
+          lt : x < m
+          lt = rw q.items at h
+
+          from : Steps (tables w).next x v ⊎ Steps (tables w).next v x → Steps (tables w).next s x
+          from (inr p) = steps_trans f.starts.steps p
+          from (inl p) = ⊎_elim (λ r. r) (before g q x lt) (steps_join q.matching f.start_below lt f.starts.steps p)
 
 -- with the path there are more words, and at most as many as a thread has
-pub filling_less : {w : List ℕ} {n v : ℕ} {o o' : List ℕ} {at target count : ℕ} (f : Filling w n v o o' at count) → (tables w).next at ≡ target + 1
-    → Matching n (tables w) → IsSolved n w → {p : List ℕ} {r : ℕ}
-    → PathWritten w (take (length o' - count) (drop count o')) p n at target r → (0 < r) × (count + r ≤ n + 1)
-filling_less f next m solved t = (let e = t.size in omega arith, filling_le (filling_more f next m t) solved)
+pub filling_less : {w : List ℕ} {n m v : ℕ} {o o' : List ℕ} {item at to count : ℕ} (f : Filling w n m v o o' item at count)
+    (next : ℕ) → (tables w).next item ≡ next + 1 → to ≡ owner_in w next → Matching m (tables w) → IsSolved n m w → {p : List ℕ} {r : ℕ}
+    → PathWritten w (take (length o' - count) (drop count o')) p n m at to r → (0 < r) × (count + r ≤ n + 1)
+filling_less f next behind owner_to k solved t =
+    (let e = t.size in omega arith, filling_le (filling_more f next behind owner_to k t) solved)
 
 -- what was stored there before does not matter
-pub written_over : {w o o' : List ℕ} {n v r : ℕ} (x : ℕ) → 1 < r → ThreadWritten w (set o 1 x) o' n v r → ThreadWritten w o o' n v r
+pub written_over : {w o o' : List ℕ} {n m v r : ℕ} (x : ℕ) → 1 < r → ThreadWritten w (set o 1 x) o' n m v r → ThreadWritten w o o' n m v r
 written_over {o = o} {o' = o'} x h t =
     record {
       thread = t.thread;

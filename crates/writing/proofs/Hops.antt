@@ -45,12 +45,12 @@ module _ {w : List ℕ} {c b : ℕ} {s : Row} (h : Hopping w c b s) where
     hop_nearer e = record { below = g.below; link = sym (link_of x) ∙ g.here; nearer = inr e }
 
   -- one leads there
-  pub hop_done : {n : ℕ} → IsSolved n w → c < n → b < n → bit w (ways_at + 8 * c) b ≡ 1 → bit w (links_at + 8 * c) b ≢ 1
+  pub hop_done : {n m : ℕ} → IsSolved n m w → c < n → b < n → bit w (ways_at + 8 * c) b ≡ 1 → bit w (links_at + 8 * c) b ≢ 1
       → ((y : ℕ) → s.from ≤ y → y < 256 → bit s.words.now s.row y ≡ 0) → ⊥
-  hop_done {n} solved cl bl e none left =
+  hop_done {n} {m} solved cl bl e none left =
       ∥∥₁_elim solved (λ a b. absurd a) (λ (g, q). through g q (q.ways.sound c b (omega (arith, q.few)) (omega (arith, q.few)) e))
     where
-      through : (g : Graph) → Solved g n w → Way g c b → ⊥
+      through : (g : Graph) → Solved g n m w → Way g c b → ⊥
       through g q (one l) = none (q.links.complete c b (omega (arith, q.few)) (omega (arith, q.few)) l)
       through g q (step {b = y} l p) =
           let yl = (q.ends c y l).1 in

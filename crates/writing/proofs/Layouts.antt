@@ -22,11 +22,12 @@ use lib.Seq.{take_at}
 use borrow.Author.Tests.{eq-eqb, ne_eqb}
 use Rattle.order.specs.Order.{All}
 use Rattle.order.proofs.Lists.{all_nil, all_cons}
-use Rattle.paths.specs.Graph.{Graph, Acyclic, Cover, Apart, total_steps}
-use Rattle.paths.proofs.Theorems.{report_fits}
+use Rattle.paths.specs.Graph.{Graph, Acyclic, Cover, Apart, weight, total_steps}
+use Rattle.paths.proofs.Theorems.{report_fits_one, report_fits_two}
 use Rattle.logs.specs.Words.{kind, number, word, Small}
 use Rattle.logs.proofs.Words.{kind_word, number_word}
-use Rattle.writing.specs.Layout.{thread_words, threads_words, ended, report_words, loop_words, report_need, SmallThread, apart_of, threads_of}
+use Rattle.writing.specs.Layout.{thread_words, threads_words, ended, report_words, loop_words, SmallThread, apart_of, threads_of}
+use Rattle.writing.specs.Writing.{ReportRoom}
 
 -- One more thread.
 pub threads_words_snoc : (ts : List (List ℕ)) (t : List ℕ) → threads_words (ts ++ t ∷ []) ≡ threads_words ts ++ thread_words t
@@ -57,7 +58,7 @@ length_report : (apart : List ℕ) (threads : List (List ℕ))
     → length (report_words apart threads) ≡ 1 + length apart + (length threads + total_steps threads) + 1
 unfolding report_words
 length_report apart threads =
-    let front : List ℕ = word 4 (length apart) ∷ map (word 5) apart in
+    let front : List ℕ = word 4 (length threads) ∷ map (word 5) apart in
     omega (
       arith,
       length_ended (front ++ threads_words threads),
@@ -66,14 +67,16 @@ length_report apart threads =
       length_threads threads,
     )
 
--- A report on an acyclic graph fits the words that the caller lends.
-pub report_fits_need : {g : Graph} → Acyclic g → (apart : List ℕ) (threads : List (List ℕ)) → Cover g threads → Apart g apart
-    → length threads ≡ length apart → length (report_words apart threads) ≤ report_need g.n
-report_fits_need acyclic apart threads cover is_apart same =
-    rw (length_report apart threads) (report_fits acyclic threads apart cover is_apart same)
+-- A report on an acyclic graph fits words that have room for one.
+pub report_fits_need : {g : Graph} {k : ℕ} → Acyclic g → (apart : List ℕ) (threads : List (List ℕ)) → Cover g threads → Apart g apart
+    → length threads ≡ weight g apart → ReportRoom g k → length (report_words apart threads) ≤ k
+report_fits_need acyclic apart threads cover is_apart same room =
+    rw (length_report apart threads)
+    (⊎_elim (λ (one, enough). omega (arith, report_fits_one acyclic threads apart one cover is_apart same))
+    (λ (two, enough). omega (arith, report_fits_two acyclic threads apart two cover is_apart same)) room)
 
--- Word 0 is of kind 4 and has the size of the apart set.
-pub report_head : (apart : List ℕ) (threads : List (List ℕ)) → get_or (report_words apart threads) 0 0 ≡ word 4 (length apart)
+-- Word 0 is of kind 4 and has the number of threads.
+pub report_head : (apart : List ℕ) (threads : List (List ℕ)) → get_or (report_words apart threads) 0 0 ≡ word 4 (length threads)
 unfolding report_words ended
 report_head apart threads = refl
 
@@ -158,13 +161,13 @@ threads_kinds (t ∷ ts) h =
     λ w m. ⊎_elim (first w) (others w) (append_cases (thread_words t) m)
 
 -- Where its numbers are small, a report's words give back its apart set and its threads.
-module _ (apart : List ℕ) (threads : List (List ℕ)) (few : Small (length apart)) (small : All Small apart) (steps : All SmallThread threads) where
+module _ (apart : List ℕ) (threads : List (List ℕ)) (few : Small (length threads)) (small : All Small apart) (steps : All SmallThread threads) where
   -- the end's number may be any
   pub apart_of_report : apart_of (report_words apart threads) ≡ apart
   unfolding report_words ended
   apart_of_report =
       let fives : List ℕ = map (word 5) apart in
-      let c : ℕ = length (word 4 (length apart) ∷ fives ++ threads_words threads) in
+      let c : ℕ = length (word 4 (length threads) ∷ fives ++ threads_words threads) in
       let end : List ℕ = word 15 c ∷ [] in
       let none : apart_of (threads_words threads ++ end) ≡ [] =
       apart_of_none (threads_words threads ++ end)
@@ -172,7 +175,7 @@ module _ (apart : List ℕ) (threads : List (List ℕ)) (few : Small (length apa
       ⊎_elim (λ n. let k = threads_kinds threads steps w n in omega arith)
       (λ n. let same = ap kind (eq_of_singleton n) in omega arith)
       (append_cases (threads_words threads) m)) in
-      apart_of_other (word 4 (length apart)) (fives ++ threads_words threads ++ end) (λ e. omega (arith, kind_word 4 (length apart) few))
+      apart_of_other (word 4 (length threads)) (fives ++ threads_words threads ++ end) (λ e. omega (arith, kind_word 4 (length threads) few))
       ∙ ap apart_of (append_assoc fives (threads_words threads) end)
       ∙ apart_of_fives apart (threads_words threads ++ end) small
       ∙ rw none (append-nil apart)
@@ -181,10 +184,10 @@ module _ (apart : List ℕ) (threads : List (List ℕ)) (few : Small (length apa
   unfolding report_words ended threads_of
   threads_of_report =
       let fives : List ℕ = map (word 5) apart in
-      let c : ℕ = length (word 4 (length apart) ∷ fives ++ threads_words threads) in
+      let c : ℕ = length (word 4 (length threads) ∷ fives ++ threads_words threads) in
       let end : List ℕ = word 15 c ∷ [] in
       let last : threads_of end ≡ [] = threads_of_none end [] (λ w m e. let same = ap kind (eq_of_singleton m) in omega arith) in
-      threads_of_other (word 4 (length apart)) (fives ++ threads_words threads ++ end) (λ e. omega (arith, kind_word 4 (length apart) few))
+      threads_of_other (word 4 (length threads)) (fives ++ threads_words threads ++ end) (λ e. omega (arith, kind_word 4 (length threads) few))
       ∙ ap threads_of (append_assoc fives (threads_words threads) end)
       ∙ threads_of_none fives (threads_words threads ++ end) (λ w m e. omega (arith, kinds_of 5 apart small w m))
       ∙ threads_of_threads threads end steps

@@ -2,6 +2,8 @@
 pub mod Layouts
 pub mod Buffers
 pub mod Listing
+pub mod Widths
+pub mod Solved
 pub mod Starts
 pub mod Hops
 pub mod Stepping

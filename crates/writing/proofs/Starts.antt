@@ -1,17 +1,20 @@
--- The first episode of a chain, found from one to the one before it. Fewer and fewer episodes have a way to it.
+-- The first item of a chain, found from one to the one before it. Fewer and fewer episodes have a way to its owner.
 use mathlib.Core.Path.{◌≡◌}
 use mathlib.Core.List.{List}
 use Prim.Native.Nat.{ℕ, ◌+◌, ◌*◌, ◌≤◌, ◌<◌}
 use native.Mathlib.Decide.{ℕ_discrete}
 use native.Mathlib.Omega.{arith}
 use Rattle.paths.specs.Graph.{Graph, Way}
+use Rattle.paths.specs.Items.{owner}
 use Rattle.paths.proofs.Ways.{way_trans}
+use Rattle.paths.proofs.Items.{owner_below}
 use Rattle.bits.specs.Bits.{bit, sum}
 use Rattle.bits.specs.Work.{ways_at}
 use Rattle.bits.proofs.Rows.{bit_lt}
 use Rattle.searching.specs.Items.{Matching, Steps, stay, go as ahead}
 use Rattle.searching.specs.State.{tables}
 use Rattle.chains.proofs.Counts.{sum_less}
+use Rattle.items.specs.Listed.{owner_in}
 use Rattle.writing.specs.Writing.{Solved}
 
 -- how many have a way to `x`
@@ -43,30 +46,37 @@ module _ {w : List ℕ} {n v x : ℕ} (y : ℕ) (m : Matching n (tables w)) (h :
   pub start_more : Starting w v y
   start_more = record { below = before_below; steps = ahead behind s.steps }
 
-  pub start_less : (g : Graph) → Solved g n w → ways_to w y < ways_to w x
+  pub start_less : {k : ℕ} (g : Graph) → Solved g k n w → ways_to w (owner_in w y) < ways_to w (owner_in w x)
   start_less g q =
-      sum_less 256 (λ a. bit w (ways_at + 8 * a) y) (λ a. bit w (ways_at + 8 * a) x)
-      (λ a l. le a l (ℕ_discrete (bit w (ways_at + 8 * a) y) 1)) y yl (less (ℕ_discrete (bit w (ways_at + 8 * y) y) 1))
+      rw (q.owners y prior_below, q.owners x below)
+      (sum_less 256 (λ a. bit w (ways_at + 8 * a) (owner g y)) (λ a. bit w (ways_at + 8 * a) (owner g x))
+      (λ a l. le a l (ℕ_discrete (bit w (ways_at + 8 * a) (owner g y)) 1)) (owner g y) yl
+      (less (ℕ_discrete (bit w (ways_at + 8 * owner g y) (owner g y)) 1)))
     where
-      yl : y < 256
-      yl = omega (arith, prior_below, q.few)
+      few : (z : ℕ) → z < n → owner g z < 256
+      few z h = let o = owner_below g z (rw q.items h) in let c = q.count in omega (arith, q.few)
 
-      xl : x < 256
-      xl = omega (arith, below, q.few)
+      yl : owner g y < 256
+      yl = few y prior_below
 
-      way : Way g y x
+      xl : owner g x < 256
+      xl = few x below
+
+      way : Way g (owner g y) (owner g x)
       way = q.pairs y x prior_below below behind
 
-      le : (a : ℕ) → a < 256 → Dec (bit w (ways_at + 8 * a) y ≡ 1) → bit w (ways_at + 8 * a) y ≤ bit w (ways_at + 8 * a) x
+      le : (a : ℕ) → a < 256 → Dec (bit w (ways_at + 8 * a) (owner g y) ≡ 1)
+          → bit w (ways_at + 8 * a) (owner g y) ≤ bit w (ways_at + 8 * a) (owner g x)
       le a l (yes e) =
-          let f : bit w (ways_at + 8 * a) x ≡ 1 =
-          q.ways.complete a x l xl (way_trans a y x (q.ways.sound a y l yl e) way) in
+          let f : bit w (ways_at + 8 * a) (owner g x) ≡ 1 =
+          q.ways.complete a (owner g x) l xl (way_trans a (owner g y) (owner g x) (q.ways.sound a (owner g y) l yl e) way) in
           omega arith
-      le a l (no ne) = let h = bit_lt w (ways_at + 8 * a) y in omega arith
+      le a l (no ne) = let h = bit_lt w (ways_at + 8 * a) (owner g y) in omega arith
 
-      less : Dec (bit w (ways_at + 8 * y) y ≡ 1) → bit w (ways_at + 8 * y) y < bit w (ways_at + 8 * y) x
-      less (yes e) = absurd (q.acyclic y (q.ways.sound y y yl yl e))
+      less : Dec (bit w (ways_at + 8 * owner g y) (owner g y) ≡ 1)
+          → bit w (ways_at + 8 * owner g y) (owner g y) < bit w (ways_at + 8 * owner g y) (owner g x)
+      less (yes e) = absurd (q.acyclic (owner g y) (q.ways.sound (owner g y) (owner g y) yl yl e))
       less (no ne) =
-          let f = q.ways.complete y x yl xl way in
-          let h = bit_lt w (ways_at + 8 * y) y in
+          let f = q.ways.complete (owner g y) (owner g x) yl xl way in
+          let h = bit_lt w (ways_at + 8 * owner g y) (owner g y) in
           omega arith

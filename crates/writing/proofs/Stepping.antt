@@ -17,14 +17,14 @@ use Rattle.writing.specs.Writing.{Solved, IsSolved, HopTo}
 use Rattle.writing.proofs.Buffers.{length_snoc, begins_length, begins_more}
 
 -- The words are the steps behind `c` of a path from `c` to `at`.
-pub record Stepping (w : List ℕ) (n c : ℕ) (o o' : List ℕ) (at count : ℕ) : Type 0 where
+pub record Stepping (w : List ℕ) (n m c : ℕ) (o o' : List ℕ) (at count : ℕ) : Type 0 where
   pub steps : List ℕ
   pub size : count ≡ length steps
   pub words : BeginsWith (map (word 7) steps) o o'
   pub below : at < n
-  pub joins : (g : Graph) → Solved g n w → (p : List ℕ) → Thread g (at ∷ p) → Thread g (c ∷ (steps ++ p))
+  pub joins : (g : Graph) → Solved g n m w → (p : List ℕ) → Thread g (at ∷ p) → Thread g (c ∷ (steps ++ p))
 
-module _ {w : List ℕ} {n c : ℕ} {o o' : List ℕ} {at count : ℕ} (s : Stepping w n c o o' at count) where
+module _ {w : List ℕ} {n m c : ℕ} {o o' : List ℕ} {at count : ℕ} (s : Stepping w n m c o o' at count) where
   pub stepping_length : length o' ≡ length o
   stepping_length = begins_length (map (word 7) s.steps) o o' s.words
 
@@ -35,8 +35,8 @@ module _ {w : List ℕ} {n c : ℕ} {o o' : List ℕ} {at count : ℕ} (s : Step
       (begins_more (map (word 7) s.steps) o o' s.words count (word 7 r)
       (let e = s.size in let d = length-map s.steps (word 7) in omega arith) l)
 
-  module _ {b r : ℕ} (solved : IsSolved n w) (h : HopTo w at b r) where
-    module _ {g : Graph} (q : Solved g n w) where
+  module _ {b r : ℕ} (solved : IsSolved n m w) (h : HopTo w at b r) where
+    module _ {g : Graph} (q : Solved g n m w) where
       hop_link : Link g at r
       hop_link = q.links.sound at r (let few = q.few in let l = s.below in omega arith) h.below h.link
 
@@ -67,14 +67,14 @@ module _ {w : List ℕ} {n c : ℕ} {o o' : List ℕ} {at count : ℕ} (s : Step
           let k = q.count in
           omega arith
 
-    pub stepping_room : ((g : Graph) → Solved g n w → (p : List ℕ) → Thread g (c ∷ p) → length p ≤ length o) → count < length o
+    pub stepping_room : ((g : Graph) → Solved g n m w → (p : List ℕ) → Thread g (c ∷ p) → length p ≤ length o) → count < length o
     stepping_room room = ∥∥₁_elim solved (search props) (λ (g, q). fits q (room g q))
 
     pub stepping_less : count < n
     stepping_less = ∥∥₁_elim solved (search props) (λ (g, q). less q)
 
     -- a step that is not the last
-    pub stepping_more : count < length o → Stepping w n c o (set o' count (word 7 r)) r (count + 1)
+    pub stepping_more : count < length o → Stepping w n m c o (set o' count (word 7 r)) r (count + 1)
     stepping_more l =
         record {
           steps = s.steps ++ (r ∷ []);
@@ -85,9 +85,9 @@ module _ {w : List ℕ} {n c : ℕ} {o o' : List ℕ} {at count : ℕ} (s : Step
         }
 
     -- the last
-    pub stepping_ends : r ≡ b → count < length o → PathWritten w o (set o' count (word 7 r)) n c b (count + 1)
+    pub stepping_ends : r ≡ b → count < length o → PathWritten w o (set o' count (word 7 r)) n m c b (count + 1)
     stepping_ends e l =
-        subst (λ (x : ℕ). PathWritten w o (set o' count (word 7 r)) n c x (count + 1)) e
+        subst (λ (x : ℕ). PathWritten w o (set o' count (word 7 r)) n m c x (count + 1)) e
         (record {
           between = s.steps;
           size = let z = s.size in omega arith;

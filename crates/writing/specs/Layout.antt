@@ -1,5 +1,5 @@
 -- The words of a report and of a loop, and what is read back from a report's words.
-use Rattle.std.specs.Prelude.{◌≡◌, true, false, List, [], ◌∷◌, ◌++◌, map, ℕ, ◌+◌, ◌*◌, ◌/◌, ◌≤◌, eqb, length, take, drop}
+use Rattle.std.specs.Prelude.{◌≡◌, true, false, List, [], ◌∷◌, ◌++◌, map, ℕ, zero, suc, ◌+◌, ◌*◌, ◌/◌, ◌≤◌, eqb, length, take, drop}
 use Rattle.order.specs.Order.{All}
 use Rattle.logs.specs.Words.{kind, number, word, Small}
 
@@ -15,17 +15,18 @@ threads_words (t ∷ ts) = thread_words t ++ threads_words ts
 unfoldable pub ended : List ℕ → List ℕ
 ended ws = ws ++ word 15 (length ws) ∷ []
 
--- a report: kind 4 with the width, the apart set as kind 5, the threads, and the end
+-- a report: kind 4 with the width, which is the number of threads, the apart set as kind 5, the threads, and the end
 unfoldable pub report_words : List ℕ → List (List ℕ) → List ℕ
-report_words apart threads = ended (word 4 (length apart) ∷ map (word 5) apart ++ threads_words threads)
+report_words apart threads = ended (word 4 (length threads) ∷ map (word 5) apart ++ threads_words threads)
 
 -- a loop: kind 8 with its length, then its episodes as kind 7
 unfoldable pub loop_words : List ℕ → List ℕ
 loop_words c = word 8 (length c) ∷ map (word 7) c
 
--- the output words that a report on `n` episodes needs: 2 + 2n + q
-abbrev pub report_need : ℕ → ℕ
-report_need n = 2 + 2 * n + (n + 1) * (n + 1) / 4
+-- the output words that a report needs on a log with `n` episodes and `v` voices words: 2 + 2n + q without voices words, else 2 + 3n + 2q
+abbrev pub report_need : ℕ → ℕ → ℕ
+report_need n zero = 2 + 2 * n + (n + 1) * (n + 1) / 4
+report_need n (suc v) = 2 + 3 * n + 2 * ((n + 1) * (n + 1) / 4)
 
 -- a thread whose length and steps words can hold
 abbrev pub SmallThread : List ℕ → Type 0

@@ -6,8 +6,8 @@ use Rattle.writing.specs.Layout.{BeginsWith}
 use Rattle.writing.specs.Writing.{Solved}
 
 -- the steps of a path from `c` to `b` but for `c`, in `r` words
-pub record PathWritten (w o o' : List ℕ) (n c b r : ℕ) : Type 0 where
+pub record PathWritten (w o o' : List ℕ) (n m c b r : ℕ) : Type 0 where
   pub between : List ℕ
   pub size : r ≡ length between + 1
   pub words : BeginsWith (map (word 7) (between ++ (b ∷ []))) o o'
-  pub of : (g : Graph) → Solved g n w → Thread g (c ∷ (between ++ (b ∷ [])))
+  pub of : (g : Graph) → Solved g n m w → Thread g (c ∷ (between ++ (b ∷ [])))

@@ -1,40 +1,56 @@
 -- What stands in the work words when a report or a loop is written, and what each function writes.
-use Rattle.std.specs.Prelude.{◌≡◌, ◌⊎◌, List, ◌∷◌, map, ℕ, ◌+◌, ◌*◌, ◌≤◌, ◌<◌, length, get_or}
-use Rattle.paths.specs.Graph.{Graph, EndsBelow, Link, Way, Acyclic, Loop}
+use Rattle.std.specs.Prelude.{◌≡◌, ◌⊎◌, Bool, ◌&&◌, List, ◌∷◌, map, ℕ, ◌+◌, ◌*◌, ◌≤◌, ◌<◌, ltb, length}
+use Rattle.paths.specs.Graph.{Graph, Episode, EndsBelow, Link, Way, Acyclic, Loop}
+use Rattle.paths.specs.Passing.{passing}
+use Rattle.paths.specs.Items.{item_count, owner, first_item, ItemWay, by_voices}
+use Rattle.paths.specs.OneVoice.{OneVoice}
 use Rattle.logs.specs.Words.{word}
 use Rattle.bits.specs.Bits.{bit}
-use Rattle.bits.specs.Work.{links_at, ways_at, none_at, used_words, Matrix}
-use Rattle.searching.specs.Items.{Tables, Matching, Steps, Exhausted, Shrunk, members}
+use Rattle.bits.specs.Work.{links_at, ways_at, used_words, Matrix}
+use Rattle.searching.specs.Items.{Tables, Matching, Steps, Exhausted, Shrunk, member_test, members}
 use Rattle.chains.specs.Cycles.{Selves}
 use Rattle.chains.specs.Threads.{ThreadOf, ThreadsOf}
 use Rattle.searching.specs.State.{tables}
-use Rattle.writing.specs.Layout.{thread_words, threads_words, report_words, loop_words, BeginsWith}
+use Rattle.items.specs.Listed.{voices_in, start_in, owner_in}
+use Rattle.writing.specs.Layout.{thread_words, threads_words, report_words, report_need, loop_words, BeginsWith}
 
--- The work words hold the links and the ways of an acyclic graph with `n` episodes, as few chains of ways as can be, and the exhausted
--- search.
-pub record Solved (g : Graph) (n : ℕ) (w : List ℕ) : Type 0 where
+-- The work words hold the links, the ways and the voices of an acyclic graph with `n` episodes, its `m` items, as few chains of these as can be, and
+-- the exhausted search.
+pub record Solved (g : Graph) (n m : ℕ) (w : List ℕ) : Type 0 where
   pub count : g.n ≡ n
   pub few : n < 256
+  pub items : item_count g ≡ m
+  pub few_items : m < 256
   pub long : used_words ≤ length w
   pub ends : EndsBelow g
   pub acyclic : Acyclic g
   pub links : Matrix links_at w (Link g)
   pub ways : Matrix ways_at w (Way g)
-  pub none : (i : ℕ) → none_at ≤ i → i < used_words → get_or w i 0 ≡ 0
-  pub matching : Matching n (tables w)
-  pub pairs : (a b : ℕ) → a < n → b < n → (tables w).next a ≡ b + 1 → Way g a b
-  pub exhausted : Exhausted n (Way g) (tables w)
+  pub voices : (v : ℕ) → v < n → voices_in w v ≡ g.voices v
+  pub starts : (v : ℕ) → v < n → start_in w v ≡ first_item g v
+  pub owners : (x : ℕ) → x < m → owner_in w x ≡ owner g x
+  pub matching : Matching m (tables w)
+  pub pairs : (x y : ℕ) → x < m → y < m → (tables w).next x ≡ y + 1 → ItemWay g x y
+  pub exhausted : Exhausted m (ItemWay g) (tables w)
 
 -- the work words hold so much of some graph
-abbrev pub IsSolved : ℕ → List ℕ → Type 0
-IsSolved n w = ∥ ((g : Graph) × Solved g n w) ∥₁
+abbrev pub IsSolved : ℕ → ℕ → List ℕ → Type 0
+IsSolved n m w = ∥ ((g : Graph) × Solved g n m w) ∥₁
 
--- the apart set: kind 4 with its size `k`, then its members
-pub record ApartWritten (w o o' : List ℕ) (n k : ℕ) : Type 0 where
-  pub size : k ≡ length (members (tables w) n)
-  pub words : BeginsWith (word 4 k ∷ map (word 5) (members (tables w) n)) o o'
+-- whether the episode `v` is in the apart set: it has voices, and its first item, with which the others come, is a member of the antichain
+abbrev pub apart_test : List ℕ → ℕ → Bool
+apart_test w v = ltb 0 (voices_in w v) && member_test (tables w) (start_in w v)
 
--- the first episode of the chain of `v`
+-- the apart set among the episodes below `k`, rising
+abbrev pub apart_in : List ℕ → ℕ → List ℕ
+apart_in w k = passing (apart_test w) k
+
+-- the apart set: kind 4 with the width, the voices of its members together, then these; `r` counts them
+pub record ApartWritten (w o o' : List ℕ) (n r : ℕ) : Type 0 where
+  pub size : r ≡ length (apart_in w n)
+  pub words : BeginsWith (word 4 (length (by_voices (voices_in w) (apart_in w n))) ∷ map (word 5) (apart_in w n)) o o'
+
+-- the first item of the chain of `v`
 pub record StartOf (w : List ℕ) (v r : ℕ) : Type 0 where
   pub below : (n : ℕ) → Matching n (tables w) → v < n → r < n
   pub first : (tables w).prev r ≡ 0
@@ -46,26 +62,31 @@ pub record HopTo (w : List ℕ) (c b r : ℕ) : Type 0 where
   pub link : bit w (links_at + 8 * c) r ≡ 1
   pub nearer : (r ≡ b) ⊎ (bit w (ways_at + 8 * r) b ≡ 1)
 
--- a thread that holds the chain of `v`, in `r` words
-pub record ThreadWritten (w o o' : List ℕ) (n v r : ℕ) : Type 0 where
+-- a thread that holds the owners of the chain of the item `v`, in `r` words
+pub record ThreadWritten (w o o' : List ℕ) (n m v r : ℕ) : Type 0 where
   pub thread : List ℕ
   pub size : r ≡ length (thread_words thread)
   pub words : BeginsWith (thread_words thread) o o'
-  pub of : (g : Graph) → Solved g n w → ThreadOf g (tables w).next v thread
+  pub of : (g : Graph) → Solved g n m w → ThreadOf g (tables w).next v thread
 
--- a thread for each member of the apart set, in `r` words
-pub record ThreadsWritten (w o o' : List ℕ) (n r : ℕ) : Type 0 where
+-- a thread for each member of the antichain, in `r` words
+pub record ThreadsWritten (w o o' : List ℕ) (n m r : ℕ) : Type 0 where
   pub threads : List (List ℕ)
   pub size : r ≡ length (threads_words threads)
   pub words : BeginsWith (threads_words threads) o o'
-  pub of : (g : Graph) → Solved g n w → ThreadsOf g (tables w).next (members (tables w) n) threads
+  pub of : (g : Graph) → Solved g n m w → ThreadsOf g (tables w).next (members (tables w) m) threads
 
 -- a whole report, in `r` words
-pub record ReportWritten (w o o' : List ℕ) (n r : ℕ) : Type 0 where
+pub record ReportWritten (w o o' : List ℕ) (n m r : ℕ) : Type 0 where
   pub threads : List (List ℕ)
-  pub size : r ≡ length (report_words (members (tables w) n) threads)
-  pub words : BeginsWith (report_words (members (tables w) n) threads) o o'
-  pub of : (g : Graph) → Solved g n w → ThreadsOf g (tables w).next (members (tables w) n) threads
+  pub size : r ≡ length (report_words (apart_in w n) threads)
+  pub words : BeginsWith (report_words (apart_in w n) threads) o o'
+  pub of : (g : Graph) → Solved g n m w → ThreadsOf g (tables w).next (members (tables w) m) threads
+
+-- `k` words have room for a report on `g`: each episode has one voice, or none has more than two
+abbrev pub ReportRoom : Graph → ℕ → Type 0
+ReportRoom g k =
+    (OneVoice g × (report_need g.n 0 ≤ k)) ⊎ (((v : ℕ) → Episode g v → g.voices v ≤ 2) × (report_need g.n 1 ≤ k))
 
 -- The items behind each other from `v` on are a loop: they come of a shrink from items that are each behind itself.
 pub record Looping (g : Graph) (n v : ℕ) (w : List ℕ) : Type 0 where

@@ -118,7 +118,7 @@ impl From<Result<Stretch, Refusal>> for ThreadAnswer {
     }
 }
 
-// Questions 1 to 10 and 18.
+// Questions 1 to 10, and 18 to 21.
 #[unsafe(no_mangle)]
 pub extern "C" fn zohapy_read(log: &[u32]) -> ReadAnswer
     ensures { read_numbers (questions service log.now) ≡ (result.number, result.place, result.episodes, result.links) }

@@ -3,10 +3,24 @@
 
 use std::fmt::Debug;
 
-use zohapy::{Outcome, Refusal, TrimOutcome, WORK_WORDS, copy_words, fair_copy, read, report, report_words, trimmed_copy};
+use zohapy::{
+    Outcome, Refusal, TrimOutcome, WORK_WORDS, copy_words_with_voices, fair_copy, marks, read, report, report_words,
+    report_words_with_voices, trimmed_copy,
+};
 
 /// Stands in every word of a buffer before a call.
 pub const OLD: u32 = 0xABCD_EF01;
+
+/// The output words that a report on a log needs.
+pub fn report_need(log: &[u32]) -> usize {
+    let episodes = read(log).expect("the log passes").episodes;
+    if marks(log).is_ok_and(|marks| marks.is_empty()) { report_words(episodes) } else { report_words_with_voices(episodes) }
+}
+
+/// The output words that a copy of a log needs.
+pub fn copy_need(log: &[u32]) -> usize {
+    copy_words_with_voices(read(log).expect("the log passes").links, marks(log).expect("the log passes").len())
+}
 
 /// A call with the output words that are needed and with three more: the answer and the words that it counts, which are the same
 /// both times. Behind them the output is unchanged, and the work words are zero, with the others unchanged.
@@ -24,7 +38,7 @@ fn called<A: PartialEq + Debug>(need: usize, call: impl Fn(&mut [u32], &mut [u32
 
 /// The report of a log, or its loop, and its words.
 pub fn reported(log: &[u32]) -> (Outcome, Vec<u32>) {
-    called(report_words(read(log).expect("the log passes").episodes), |out, work| match report(log, out, work) {
+    called(report_need(log), |out, work| match report(log, out, work) {
         outcome @ Outcome::Report(count) => (outcome, count),
         outcome @ Outcome::Loop(length) => (outcome, length + 1),
         Outcome::Refused(refusal) => panic!("{refusal}"),
@@ -33,7 +47,7 @@ pub fn reported(log: &[u32]) -> (Outcome, Vec<u32>) {
 
 /// The words of the fair copy of a log.
 pub fn copied(log: &[u32]) -> Vec<u32> {
-    called(copy_words(read(log).expect("the log passes").links), |out, work| {
+    called(copy_need(log), |out, work| {
         let count = fair_copy(log, out, work).expect("the log has a fair copy");
         (count, count)
     })
@@ -42,7 +56,7 @@ pub fn copied(log: &[u32]) -> Vec<u32> {
 
 /// The trimmed copy of a log, or its loop, and its words.
 pub fn trimmed(log: &[u32]) -> (TrimOutcome, Vec<u32>) {
-    called(copy_words(read(log).expect("the log passes").links), |out, work| match trimmed_copy(log, out, work) {
+    called(copy_need(log), |out, work| match trimmed_copy(log, out, work) {
         outcome @ TrimOutcome::Trimmed(count) => (outcome, count),
         outcome @ TrimOutcome::Loop(length) => (outcome, length + 1),
         TrimOutcome::Refused(refusal) => panic!("{refusal}"),

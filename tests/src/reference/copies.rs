@@ -2,7 +2,7 @@
 //! - `by_sorting`: the links are sorted with their pauses, and the first of each link is kept;
 //! - `by_pairs`: for each two episodes, the least pause of all to words that link them.
 
-use crate::words::{END, FROM, Noted, head_word, to_word, word};
+use crate::words::{END, FROM, Noted, head_word, to_word, voices_word, word};
 
 /// Each link once, with its least pause, rising.
 pub fn by_sorting(noted: &[Noted]) -> Vec<Noted> {
@@ -24,9 +24,11 @@ pub fn by_pairs(n: usize, noted: &[Noted]) -> Vec<Noted> {
     links
 }
 
-/// The words of a copy of this version with these links, which rise: a group for each episode that has links.
-pub fn copy_words(version: usize, n: usize, links: &[Noted]) -> Vec<u32> {
-    let mut words = vec![head_word(version, n)];
+/// The words of a copy of this version with these voices and links, which rise: a voices word for each episode that has not one
+/// voice, and a group for each that has links.
+pub fn copy_words(version: usize, voices: &[usize], links: &[Noted]) -> Vec<u32> {
+    let mut words = vec![head_word(version, voices.len())];
+    words.extend((0..voices.len()).filter(|&v| voices[v] != 1).map(|v| voices_word(v, voices[v])));
     for group in links.chunk_by(|one, next| one.0 == next.0) {
         words.push(word(FROM, group[0].0));
         words.extend(group.iter().map(|&(_, to, pause)| to_word(to, pause)));

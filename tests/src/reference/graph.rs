@@ -1,7 +1,8 @@
-//! The graph of a log that passes: the links that count, and the ways that a search depth first finds. It has no pauses.
+//! The graph of a log that passes: the links that count, the ways that a search depth first finds, and the voices of each episode.
+//! It has no pauses.
 
-use super::joining;
-use crate::words::{FROM, Link, Noted, TO, episode, episodes, kind, number, pause, version};
+use super::{joining, voicing};
+use crate::words::{FROM, Link, Noted, Said, TO, VOICES, episode, episodes, kind, number, pause, version, voices};
 
 pub struct Graph {
     pub n: usize,
@@ -9,9 +10,17 @@ pub struct Graph {
     pub links: Vec<Link>,
     /// The episodes that each episode is linked to, rising.
     pub next: Vec<Vec<usize>>,
+    /// The voices of each episode.
+    pub voices: Vec<usize>,
 }
 
-/// The links of a log that passes questions 1 to 10 and 18, as it gives them: with their pauses and repeats, in its order.
+/// The voices words of a log that passes questions 1 to 10 and 18 to 21, in its order.
+pub fn said(log: &[u32]) -> Vec<Said> {
+    let words = log[1..log.len() - 1].iter().filter(|&&given| kind(given) == VOICES);
+    words.map(|&given| (episode(given), voices(given))).collect()
+}
+
+/// The links of a log that passes questions 1 to 10 and 18 to 21, as it gives them: with their pauses and repeats, in its order.
 pub fn noted(log: &[u32]) -> Vec<Noted> {
     let mut links = Vec::new();
     let mut from = 0;
@@ -19,6 +28,7 @@ pub fn noted(log: &[u32]) -> Vec<Noted> {
         match kind(given) {
             FROM => from = number(given),
             TO => links.push((from, episode(given), pause(given))),
+            VOICES => {}
             _ => unreachable!("the log passes"),
         }
     }
@@ -26,24 +36,37 @@ pub fn noted(log: &[u32]) -> Vec<Noted> {
 }
 
 impl Graph {
-    pub fn new(n: usize, mut links: Vec<Link>) -> Graph {
+    /// The graph of the links between episodes that have these voices.
+    pub fn new(voices: Vec<usize>, mut links: Vec<Link>) -> Graph {
         links.sort_unstable();
         links.dedup();
-        let mut next = vec![Vec::new(); n];
+        let mut next = vec![Vec::new(); voices.len()];
         for &(from, to) in &links {
             next[from].push(to);
         }
-        Graph { n, links, next }
+        Graph { n: voices.len(), links, next, voices }
     }
 
-    /// The graph of a log that passes questions 1 to 10 and 18: it has the links that count.
+    /// The graph of a log that passes questions 1 to 10 and 18 to 21: it has the links that count.
     pub fn of(log: &[u32]) -> Graph {
-        Graph::new(episodes(log[0]), joining::by_words(version(log[0]), &noted(log)))
+        let voices = voicing::by_words(episodes(log[0]), &said(log));
+        Graph::new(voices, joining::by_words(version(log[0]), &noted(log)))
     }
 
     /// The same with every link that was heard.
     pub fn of_all(log: &[u32]) -> Graph {
-        Graph::new(episodes(log[0]), noted(log).iter().map(|&(from, to, _)| (from, to)).collect())
+        let voices = voicing::by_words(episodes(log[0]), &said(log));
+        Graph::new(voices, noted(log).iter().map(|&(from, to, _)| (from, to)).collect())
+    }
+
+    /// The sum of the voices of these episodes.
+    pub fn weight(&self, set: &[usize]) -> usize {
+        set.iter().map(|&v| self.voices[v]).sum()
+    }
+
+    /// The same graph, each episode with one voice.
+    pub fn with_one_voice(&self) -> Graph {
+        Graph::new(vec![1; self.n], self.links.clone())
     }
 
     pub fn linked(&self, from: usize, to: usize) -> bool {
@@ -94,6 +117,7 @@ impl Graph {
             n += usize::from(!marked[v]);
         }
         let kept = self.links.iter().filter(|link| !marked[link.0] && !marked[link.1]);
-        Graph::new(n, kept.map(|&(from, to)| (names[from], names[to])).collect())
+        let voices = (0..self.n).filter(|&v| !marked[v]).map(|v| self.voices[v]).collect();
+        Graph::new(voices, kept.map(|&(from, to)| (names[from], names[to])).collect())
     }
 }

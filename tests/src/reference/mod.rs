@@ -1,5 +1,5 @@
 //! The answers that are expected, worked out anew: the questions, the links of a log that count, its graph, its link count,
-//! its width, its furthest apart set and its copies.
+//! the voices of its episodes, its width, its furthest apart set and its copies.
 
 mod copies;
 mod counting;
@@ -9,8 +9,12 @@ mod joining;
 mod questions;
 mod subject;
 mod trimming;
+mod voicing;
 
 pub use copies::{by_sorting as least, copy_words};
-pub use graph::{Graph, noted};
-pub use questions::{Parts, Refusal, WORK, bytes, copy_need, in_order, lent, parts, report_need};
+pub use furthest::{by_flow as furthest, smallest_cover};
+pub use graph::{Graph, noted, said};
+pub use questions::{MOST_WITH_VOICES, Parts, Reading, Refusal, WORK, bytes, copy_need, in_order, lent, parts, report_need};
 pub use subject::{Passed, Subject};
+pub use trimming::by_search as trimmed;
+pub use voicing::by_words as voices;

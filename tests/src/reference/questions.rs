@@ -1,7 +1,8 @@
 //! The questions put to a log, to the lent buffers, to a report's words and to the program's bytes.
 
-use crate::words::{APART, END, FROM, HEAD, LARGEST, STEP, THREAD, TO, WIDTH};
-use crate::words::{episode, episodes, kind, number, version, word};
+use crate::words::{APART, END, FROM, HEAD, LARGEST, MOST_VOICES, STEP, THREAD, TO, VOICES, WIDTH};
+use crate::words::{episode, episodes, kind, number, version, voices, word};
+use std::collections::BTreeSet;
 
 /// A refusal: its number and its place.
 #[derive(Clone, Copy, Debug, PartialEq, Eq)]
@@ -16,14 +17,36 @@ pub const WORK: usize = 16_384;
 const LAST_VERSION: usize = 1;
 const MOST_EPISODES: usize = 200;
 const MOST_LINKS: usize = 4_096;
-const MOST_BYTES: usize = 32_776;
+const MOST_BYTES: usize = 33_256;
+
+/// The most episodes of a log with a voices word.
+pub const MOST_WITH_VOICES: usize = 120;
+
+/// What a log that passes has: its episodes, its to words and its voices words.
+#[derive(Clone, Copy, Debug, PartialEq, Eq)]
+pub struct Reading {
+    pub n: usize,
+    pub links: usize,
+    pub voices: usize,
+}
 
 fn no<T>(number: u32, place: usize) -> Result<T, Refusal> {
     Err(Refusal { number, place })
 }
 
-/// Questions 1 to 10, with 18 between 2 and 3: n and the count of to words, or the refusal.
-pub fn in_order(log: &[u32]) -> Result<(usize, usize), Refusal> {
+/// The questions put to a voices word, in order; the episodes that voices words before it name are given.
+fn voices_refused(n: usize, named: &BTreeSet<usize>, given: u32) -> Option<u32> {
+    let no = [
+        (20, n > MOST_WITH_VOICES),
+        (7, episode(given) >= n),
+        (19, voices(given) > MOST_VOICES),
+        (21, named.contains(&episode(given))),
+    ];
+    no.into_iter().find(|question| question.1).map(|question| question.0)
+}
+
+/// Questions 1 to 10, with 18 between 2 and 3, and with 20, 7, 19 and 21 at each voices word: what the log has, or the refusal.
+pub fn in_order(log: &[u32]) -> Result<Reading, Refusal> {
     if log.len() < 2 {
         return no(1, 0);
     }
@@ -40,11 +63,19 @@ pub fn in_order(log: &[u32]) -> Result<(usize, usize), Refusal> {
     let last = log.len() - 1;
     let mut from_came = false;
     let mut links = 0;
+    let mut named = BTreeSet::new();
     for place in 1..last {
         let is_from = kind(log[place]) == FROM;
         let is_to = kind(log[place]) == TO;
-        if !is_from && !is_to {
+        let is_voices = kind(log[place]) == VOICES && !from_came;
+        if !is_from && !is_to && !is_voices {
             return no(4, place);
+        }
+        if is_voices {
+            if let Some(number) = voices_refused(n, &named, log[place]) {
+                return no(number, place);
+            }
+            named.insert(episode(log[place]));
         }
         if is_to && !from_came {
             return no(5, place);
@@ -68,17 +99,18 @@ pub fn in_order(log: &[u32]) -> Result<(usize, usize), Refusal> {
     if number(log[last]) != links {
         return no(10, last);
     }
-    Ok((n, links))
+    Ok(Reading { n, links, voices: named.len() })
 }
 
-/// The output words that a report needs.
-pub fn report_need(n: usize) -> usize {
-    2 + 2 * n + ((n + 1) * (n + 1)) / 4
+/// The output words that a report needs, for n episodes and so many voices words.
+pub fn report_need(n: usize, voices: usize) -> usize {
+    let q = (n + 1) * (n + 1) / 4;
+    if voices == 0 { 2 + 2 * n + q } else { 2 + 3 * n + 2 * q }
 }
 
-/// The output words that a fair or a trimmed copy needs.
-pub fn copy_need(links: usize) -> usize {
-    2 + 2 * links
+/// The output words that a fair or a trimmed copy needs, for so many to words and voices words.
+pub fn copy_need(links: usize, voices: usize) -> usize {
+    2 + 2 * links + voices
 }
 
 /// Questions 11 and 12, for lent buffers of these lengths.
@@ -92,13 +124,22 @@ pub fn lent(need: usize, out: usize, work: usize) -> Result<(), Refusal> {
     Ok(())
 }
 
-/// Where the steps of each thread of a whole report stand: the place of the first step, and how many there are.
-pub struct Parts(Vec<(usize, usize)>);
+/// How many apart words a whole report has, and where the steps of each of its threads stand: the place of the first step, and
+/// how many there are.
+pub struct Parts {
+    pub apart: usize,
+    threads: Vec<(usize, usize)>,
+}
 
 impl Parts {
     /// Question 17: the stretch of thread `i`.
     pub fn thread(&self, i: usize) -> Result<(usize, usize), Refusal> {
-        self.0.get(i).copied().ok_or(Refusal { number: 17, place: 0 })
+        self.threads.get(i).copied().ok_or(Refusal { number: 17, place: 0 })
+    }
+
+    /// How many threads there are.
+    pub fn count(&self) -> usize {
+        self.threads.len()
     }
 }
 
@@ -124,14 +165,11 @@ pub fn parts(words: &[u32]) -> Result<Parts, Refusal> {
         }
     }
     let count = 2 + apart + threads.iter().map(|thread| 1 + thread.1).sum::<usize>();
-    if count != words.len()
-        || apart != threads.len()
-        || count - 1 > LARGEST as usize
-        || threads.iter().any(|thread| thread.1 == 0)
+    if count != words.len() || apart > threads.len() || count - 1 > LARGEST as usize || threads.iter().any(|thread| thread.1 == 0)
     {
         return no(16, 0);
     }
-    again[0] = word(WIDTH, apart);
+    again[0] = word(WIDTH, threads.len());
     let mut place = 1 + apart;
     for &(start, length) in &threads {
         if start != place + 1 {
@@ -145,7 +183,7 @@ pub fn parts(words: &[u32]) -> Result<Parts, Refusal> {
     if !apart_first || again != words {
         return no(16, 0);
     }
-    Ok(Parts(threads))
+    Ok(Parts { apart, threads })
 }
 
 /// Questions 14 and 15: the words of the program's input.

@@ -5,14 +5,15 @@ use super::counting::{by_all_pairs, by_set};
 use super::furthest::{FEW, FEWER, by_flow, by_subsets, cover_by_unions, is_furthest};
 use super::joining::by_least;
 use super::trimming::{by_search, by_threads, joined_without};
-use super::{Graph, Refusal, in_order, noted};
-use crate::counts::{Links, LongPauses, Pauses};
-use crate::words::{Noted, older, version};
+use super::voicing::by_episodes;
+use super::{Graph, Reading, Refusal, in_order, noted, said};
+use crate::counts::{Links, LongPauses, Pauses, Voiced};
+use crate::words::{Noted, Said, older, version};
 use std::cell::OnceCell;
 
 pub struct Subject {
     pub words: Vec<u32>,
-    pub reading: Result<(usize, usize), Refusal>,
+    pub reading: Result<Reading, Refusal>,
     /// What is expected of a log that passes.
     pub passed: Option<Passed>,
 }
@@ -21,6 +22,7 @@ pub struct Subject {
 pub struct Passed {
     version: usize,
     noted: Vec<Noted>,
+    said: Vec<Said>,
     pub graph: Graph,
     has_loop: OnceCell<bool>,
     furthest: OnceCell<Vec<usize>>,
@@ -30,6 +32,7 @@ pub struct Passed {
     pauses: OnceCell<Vec<Pauses>>,
     met: OnceCell<Vec<Links>>,
     long_pauses: OnceCell<LongPauses>,
+    voiced: OnceCell<Vec<Voiced>>,
 }
 
 impl Subject {
@@ -38,6 +41,7 @@ impl Subject {
         let passed = reading.ok().map(|_| Passed {
             version: version(words[0]),
             noted: noted(&words),
+            said: said(&words),
             graph: graph(&words),
             has_loop: OnceCell::new(),
             furthest: OnceCell::new(),
@@ -47,6 +51,7 @@ impl Subject {
             pauses: OnceCell::new(),
             met: OnceCell::new(),
             long_pauses: OnceCell::new(),
+            voiced: OnceCell::new(),
         });
         Subject { words, reading, passed }
     }
@@ -57,7 +62,7 @@ impl Passed {
         *self.has_loop.get_or_init(|| self.graph.has_loop())
     }
 
-    /// The furthest apart set, whose size is the width; none where there is a loop.
+    /// The furthest apart set, whose weight is the width; none where there is a loop.
     pub fn furthest(&self) -> Option<&[usize]> {
         (!self.has_loop()).then(|| &self.furthest.get_or_init(|| furthest(&self.graph))[..])
     }
@@ -69,7 +74,7 @@ impl Passed {
 
     /// The fair copy.
     pub fn fair_copy(&self) -> &[u32] {
-        self.fair.get_or_init(|| fair_copy(self.version, self.graph.n, &self.noted))
+        self.fair.get_or_init(|| fair_copy(self.version, &self.graph.voices, &self.noted))
     }
 
     /// The kinds of pauses that the log has, for the counts.
@@ -95,6 +100,16 @@ impl Passed {
         })
     }
 
+    /// The voices of the log, for the counts.
+    pub fn voiced(&self) -> &[Voiced] {
+        self.voiced.get_or_init(|| {
+            // Of larger logs this is not sought: it takes too long.
+            let furthest = self.furthest().filter(|_| self.graph.n <= 60);
+            let more = || furthest.is_some_and(|set| by_flow(&self.graph.with_one_voice()).len() > set.len());
+            Voiced::met(self.version, &self.said, &self.graph, self.has_loop(), more)
+        })
+    }
+
     /// The trimmed copy; none where there is a loop.
     pub fn trimmed_copy(&self) -> Option<&[u32]> {
         (!self.has_loop()).then(|| &self.trimmed.get_or_init(|| trimmed_copy(&self.graph))[..])
@@ -107,6 +122,8 @@ fn graph(words: &[u32]) -> Graph {
     if graph.n <= FEW {
         let links = by_least(version(words[0]), graph.n, &noted(words));
         assert_eq!(graph.links, links, "the reference: words and least pauses differ");
+        let voices = by_episodes(graph.n, &said(words));
+        assert_eq!(graph.voices, voices, "the reference: voices words and episodes differ");
     }
     graph
 }
@@ -120,7 +137,7 @@ fn furthest(graph: &Graph) -> Vec<usize> {
         assert!(is_furthest(graph, &furthest), "the reference: the flow's set is not the furthest");
     }
     if graph.n <= FEWER {
-        assert_eq!(furthest.len(), cover_by_unions(graph), "the reference: apart set and cover differ");
+        assert_eq!(graph.weight(&furthest), cover_by_unions(graph), "the reference: apart set and cover differ");
     }
     furthest
 }
@@ -134,20 +151,20 @@ fn link_count(version: usize, n: usize, noted: &[Noted]) -> usize {
     count
 }
 
-/// The fair copy: its version, and each link that was heard with its least pause.
-fn fair_copy(version: usize, n: usize, noted: &[Noted]) -> Vec<u32> {
+/// The fair copy: its version, the voices other than one, and each link that was heard with its least pause.
+fn fair_copy(version: usize, voices: &[usize], noted: &[Noted]) -> Vec<u32> {
     let links = by_sorting(noted);
-    if n <= FEW {
-        assert_eq!(links, by_pairs(n, noted), "the reference: sorting and pairs differ");
+    if voices.len() <= FEW {
+        assert_eq!(links, by_pairs(voices.len(), noted), "the reference: sorting and pairs differ");
     }
-    copy_words(version, n, &links)
+    copy_words(version, voices, &links)
 }
 
-/// The trimmed copy: the links that stay, without a pause, in version 0.
+/// The trimmed copy: the voices other than one, and the links that stay, without a pause, in version 0.
 fn trimmed_copy(graph: &Graph) -> Vec<u32> {
     let stay = by_search(graph);
     if graph.n <= FEW {
         assert_eq!(stay, by_threads(graph), "the reference: search and threads differ");
     }
-    copy_words(0, graph.n, &older(&stay))
+    copy_words(0, &graph.voices, &older(&stay))
 }

@@ -1,4 +1,5 @@
-use mathlib.Core.Path.{subst, ap, ◌∙◌}
+use mathlib.Core.Path.{subst, sym, ap, ◌∙◌}
+use Prim.Native.Nat.{◌+◌}
 use native.Mathlib.Omega.{arith}
 use Rattle.logs.specs.Log.{content_of}
 use Rattle.logs.specs.declared.passed.Log.{Log}
@@ -16,7 +17,8 @@ loop-group-init c =
       tt,
       tt,
       log,
-      marking_start c.into_iter-group-iterator.result c.args.w.now c.args.block (ap (λ (s : Groups). s.at) same ∙ first.1)
+      marking_start c.into_iter-group-iterator.result c.args.w.now c.args.block
+          (ap (λ (s : Groups). s.at) same ∙ first.1 ∙ sym (ap (λ (l : Log). l.voices_words + 1) log))
           (omega (arith, ap (λ (l : Log). l.episodes) log, c.requires.0)) c.requires.1,
     )
 

@@ -6,7 +6,7 @@ use Rattle.copying.proofs.Calls.{next_may, next_written, next_called, next_few, 
 use Rattle.copying.proofs.write_groups.Goals as goal
 
 pub loop-a-init : goal.loop-a-init
-loop-a-init g c = λ pause h writes same fits. (refl, copying_none pause h c.args.out.now fits)
+loop-a-init g c = λ pause h writes same fits. (refl, copying_none pause h c.args.start c.args.out.now (omega arith))
 
 pub write_row-more-requires : goal.write_row-more-requires
 write_row-more-requires g c =

@@ -1,4 +1,5 @@
 use mathlib.Core.Path.{subst, ap, sym, ◌∙◌}
+use Prim.Native.Nat.{◌+◌}
 use native.Mathlib.Omega.{arith}
 use Rattle.logs.specs.Log.{content_of}
 use Rattle.logs.specs.declared.passed.Log.{Log}
@@ -11,12 +12,10 @@ use Rattle.reach.proofs.mark_links.Goals as goal
 pub loop-group-init : goal.loop-group-init
 loop-group-init c =
     let same = c.into_iter-group-iterator.ensures.into_iter_gives in
-    let first = c.groups-group-items.ensures in (
-      tt,
-      tt,
-      ap (λ (s : Groups). s.log) same ∙ first.0,
-      marking_start c.into_iter-group-iterator.result c.args.w.now (ap (λ (s : Groups). s.at) same ∙ first.1) c.requires.1,
-    )
+    let first = c.groups-group-items.ensures in
+    let log = ap (λ (s : Groups). s.log) same ∙ first.0 in
+    let start = ap (λ (s : Groups). s.at) same ∙ first.1 ∙ ap (λ (l : Log). l.voices_words + 1) (sym log) in
+    (tt, tt, log, marking_start c.into_iter-group-iterator.result c.args.w.now start c.requires.1)
 
 pub mark_group-requires : goal.mark_group-requires
 mark_group-requires c =

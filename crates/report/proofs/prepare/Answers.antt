@@ -1,12 +1,28 @@
--- `report::prepare` meets its contract: the regions are made zero, and the links and the ways of the log are put there. Assumes nothing.
+-- `report::prepare` meets its contract: the matrices and the tables of the search are made zero, and the links, the ways and the voices of the log are
+-- put there. Assumes nothing.
+use mathlib.Core.Path.{◌∙◌}
+use Prim.Native.Nat.{◌≤◌}
 use native.Mathlib.Omega.{arith}
+use lib.ListN.{length}
 use Rattle.bits.specs.Work.{used_words}
-use Rattle.bits.proofs.Frames.{part_cleared}
-use Rattle.report.proofs.Calls.{ready}
+use Rattle.report.proofs.Calls.{made_zero, ready, voices_put, voices_there}
 use Rattle.report.proofs.prepare.Goals as goal
+
+pub reachability-requires : goal.reachability-requires
+reachability-requires c =
+    let (front, tables) = made_zero c.args.w.now c.clear.new.w c.clear-2.new.w (omega (arith, c.requires)) c.clear.ensures c.clear-2.ensures in (
+      omega (arith, c.requires),
+      omega (arith, front.outside.same_length, tables.outside.same_length),
+      λ i h. tables.outside.before i (omega arith) ∙ front.zeros i (omega arith) h,
+    )
 
 pub returns : goal.returns
 returns c =
     let l = c.args.log in
-    let zeroed = part_cleared c.args.w.now c.clear.new.w 0 used_words used_words (omega arith) (omega (arith, c.requires)) c.clear.ensures in
-    ready l.words.now l.episodes l.to_words l.passes c.requires (omega (arith, c.requires)) zeroed c.reachability.ensures
+    let (front, tables) = made_zero c.args.w.now c.clear.new.w c.clear-2.new.w (omega (arith, c.requires)) c.clear.ensures c.clear-2.ensures in
+    let reached = c.reachability.ensures in
+    let w = c.reachability.new.w in
+    let long : used_words ≤ length w = omega (arith, reached.outside.same_length, tables.outside.same_length, front.outside.same_length) in
+    ready l.words.now l.episodes l.to_words l.passes c.requires (omega (arith, front.outside.same_length)) tables reached
+    (voices_put w 256 (omega (arith, c.requires)) (omega arith) long c.read_voices.ensures)
+    (voices_there w 256 (omega (arith, c.requires)) (omega arith) long c.read_voices.ensures)

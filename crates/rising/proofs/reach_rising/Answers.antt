@@ -2,14 +2,14 @@ use mathlib.Core.Path.{refl, ◌∙◌}
 use Prim.Native.Nat.{◌-◌}
 use native.Mathlib.Omega.{arith}
 use Rattle.std.specs.Array.{IsFirstChunk}
-use Rattle.bits.specs.Work.{next_at}
+use Rattle.bits.specs.Work.{items_at}
 use Rattle.rising.proofs.Rising.{rising_start, rising_row, rising_end}
 use Rattle.rising.proofs.Front.{word_front, rising_all}
 use Rattle.rising.proofs.reach_rising.Goals as goal
 
 pub loop-a-init : goal.loop-a-init
 loop-a-init c =
-    let front : IsFirstChunk _ _ next_at = rw c.unwrap-front.ensures at c.first_chunk_mut.ensures.cases in
+    let front : IsFirstChunk _ _ items_at = rw c.unwrap-front.ensures at c.first_chunk_mut.ensures.cases in
     rising_start c.unwrap-front.result.now _ c.args.n refl (λ i lo hi. word_front front i hi ∙ c.requires.2 i lo hi)
 
 pub loop-a-preserved : goal.loop-a-preserved
@@ -20,5 +20,5 @@ loop-a-preserved c =
 
 pub returns : goal.returns
 returns c =
-    let front : IsFirstChunk _ _ next_at = rw c.unwrap-front.ensures at c.first_chunk_mut.ensures.cases in
+    let front : IsFirstChunk _ _ items_at = rw c.unwrap-front.ensures at c.first_chunk_mut.ensures.cases in
     rising_all front (rising_end c.unwrap-front.result.now c.loop-a.front c.loop-a.linked c.args.n c.loop-a.a (omega arith) c.loop-a.invariant)

@@ -16,7 +16,7 @@ loop-i-preserved c =
     let i = c.loop-i.i in
     let word : get_or (take (row + 8 - row) (drop row w)) i 0 ≡ get_or w (row + i) 0 =
     get_or-take (row + 8 - row) (drop row w) i 0 (omega arith) ∙ get_or-drop row w i 0 in
-    noting_on c.requires.1 (omega arith) c.loop-i.invariant (rw word at c.without.ensures) c.join_ways.ensures
+    noting_on c.requires.1 (omega arith) c.loop-i.invariant (rw word at c.without-fresh.ensures) c.join_rows.ensures
 
 pub returns : goal.returns
 returns c = noting_end (omega arith) c.loop-i.invariant

@@ -12,22 +12,22 @@ use Rattle.logs.proofs.Questions.first_stop.Goals as goal
 use Rattle.logs.proofs.Questions.first_stop.Goals.{then-at-last, else-at-last+in_default, else-at-last+in_default-2, else-at-last+in-Ok-From+in_default-to_word}
 
 pub log-init : goal.log-init
-log-init g c = heard_none (g.H.Hear.heard c.args.hearer.now) _ _ _ c.requires.0 c.requires.4
+log-init g c = heard_none (g.H.Hear.heard c.args.hearer.now) _ _ _ _ c.requires.0 c.requires.4
 
 pub row-row-requires : goal.row-row-requires
 row-row-requires g c =
     let at = c.log in
-    let episode = from_episode _ _ _ at.at (at.at - at.others) at.invariant.group (omega (arith, at.invariant.group.within)) _ c.group_word.ensures _ c.in-Ok-From.is in
-    let told = from_told _ _ _ at.at (at.at - at.others) at.invariant.group (omega (arith, at.invariant.group.within)) _ c.group_word.ensures _ c.in-Ok-From.is in
+    let episode = from_episode _ _ _ _ at.at (at.at - at.others) at.invariant.group (omega (arith, at.invariant.group.within)) _ c.group_word.ensures _ c.in-Ok-From.is in
+    let told = from_told _ _ _ _ at.at (at.at - at.others) at.invariant.group (omega (arith, at.invariant.group.within)) _ c.group_word.ensures _ c.in-Ok-From.is in
     let same : c.in-Ok-From.from ≡ number (get_or c.args.self.log.now at.at 0) = from_number (sym c.in-Ok-From.field-0-is ∙ told) in
     (c.args.self.most.episodes, c.requires.3, omega (arith, episode.1, c.requires.2, same))
 
 pub loop-to-init : goal.loop-to-init
 loop-to-init g c =
     let at = c.log in
-    let told = from_told _ _ _ at.at (at.at - at.others) at.invariant.group (omega (arith, at.invariant.group.within)) _ c.group_word.ensures _ c.in-Ok-From.is in
+    let told = from_told _ _ _ _ at.at (at.at - at.others) at.invariant.group (omega (arith, at.invariant.group.within)) _ c.group_word.ensures _ c.in-Ok-From.is in
     let same : c.in-Ok-From.from ≡ number (get_or c.args.self.log.now at.at 0) = from_number (sym c.in-Ok-From.field-0-is ∙ told) in (
-      heard_from (g.H.Hear.heard at.hearer) _ _ _ g.H.Hear.row_of at.at at.others _ at.invariant (omega (arith, at.invariant.group.within)) _ c.group_word.ensures _
+      heard_from (g.H.Hear.heard at.hearer) _ _ _ _ g.H.Hear.row_of at.at at.others _ at.invariant (omega (arith, at.invariant.group.within)) _ c.group_word.ensures _
           c.in-Ok-From.is (c.row-row.ensures ∙ ap g.H.Hear.row_of same),
       omega arith,
     )
@@ -35,18 +35,18 @@ loop-to-init g c =
 pub tell-requires : goal.tell-requires
 tell-requires g c =
     let at = c.loop-to in
-    next_link _ g.H.Hear.takes g.H.Hear.row_of _ _ _ at.at (c.log.others + 1) _ at.invariant.0 c.requires.3 c.requires.2 _ c.to_word.ensures _ c.in-Ok.is (omega arith)
+    next_link _ g.H.Hear.takes g.H.Hear.row_of _ _ _ _ at.at (c.log.others + 1) _ at.invariant.0 c.requires.3 c.requires.2 _ c.to_word.ensures _ c.in-Ok.is (omega arith)
 
 pub log-preserved : goal.log-preserved
 log-preserved g c =
     let at = c.loop-to in
-    heard_behind _ g.H.Hear.takes g.H.Hear.row_of _ _ _ at.at (c.log.others + 1) _ at.invariant.0 c.requires.3 c.requires.2 _ c.to_word.ensures _ c.in-Ok.is
+    heard_behind _ g.H.Hear.takes g.H.Hear.row_of _ _ _ _ at.at (c.log.others + 1) _ at.invariant.0 c.requires.3 c.requires.2 _ c.to_word.ensures _ c.in-Ok.is
     (g.H.Hear.heard c.tell.new.hearer) _ c.requires.1 c.tell.ensures (omega arith) (cc (c.to_before_last.ensures, c.if-not-to_before_last.true))
 
 pub loop-to-preserved : goal.loop-to-preserved
 loop-to-preserved g c =
     let at = c.loop-to in (
-      heard_on _ g.H.Hear.takes g.H.Hear.row_of _ _ _ at.at (c.log.others + 1) _ at.invariant.0 c.requires.3 c.requires.2 _ c.to_word.ensures _ c.in-Ok.is
+      heard_on _ g.H.Hear.takes g.H.Hear.row_of _ _ _ _ at.at (c.log.others + 1) _ at.invariant.0 c.requires.3 c.requires.2 _ c.to_word.ensures _ c.in-Ok.is
           (g.H.Hear.heard c.tell.new.hearer) _ c.requires.1 c.tell.ensures (omega arith) (cc (c.to_before_last.ensures, c.if-not-to_before_last.false)),
       omega arith,
     )
@@ -58,21 +58,21 @@ returns g c =
     elim c.if-at-last.branch [
       | then-at-last u ↦
           rw (u.hearer-is, u.others-is, u.place-is)
-          (at_last _ _ _ at.at (at.at - at.others) at.invariant.group (omega (arith, u.if-at-last.true)), at.invariant.links)
+          (at_last _ _ _ _ at.at (at.at - at.others) at.invariant.group (omega (arith, u.if-at-last.true)), at.invariant.links)
       | else-at-last+in_default u ↦
-          let told = from_told _ _ _ at.at (at.at - at.others) at.invariant.group (omega (arith, u.if-at-last.false, at.invariant.group.within)) _ u.group_word.ensures _ u.in_default.is in
+          let told = from_told _ _ _ _ at.at (at.at - at.others) at.invariant.group (omega (arith, u.if-at-last.false, at.invariant.group.within)) _ u.group_word.ensures _ u.in_default.is in
           let other : u.in_default.field-0 ≢ From (number (get_or c.args.self.log.now at.at 0)) = λ e. search rules in
           absurd (other told)
       | else-at-last+in_default-2 u ↦
           rw (u.hearer-is, u.others-is, u.place-is) (
-            from_given_up _ _ _ at.at (at.at - at.others) at.invariant.group (omega (arith, u.if-at-last.false, at.invariant.group.within)) _ u.group_word.ensures _
+            from_given_up _ _ _ _ at.at (at.at - at.others) at.invariant.group (omega (arith, u.if-at-last.false, at.invariant.group.within)) _ u.group_word.ensures _
                 u.in_default.is,
             at.invariant.links,
           )
       | else-at-last+in-Ok-From+in_default-to_word u ↦
           let here = u.loop-to.invariant.0 in
           rw (u.hearer-is, u.others-is, u.place-is) (
-            to_given_up _ _ _ u.loop-to.at (u.loop-to.at - (at.others + 1)) here.group here.to_here _ u.to_word.ensures _ u.in_default-to_word.is,
+            to_given_up _ _ _ _ u.loop-to.at (u.loop-to.at - (at.others + 1)) here.group here.to_here _ u.to_word.ensures _ u.in_default-to_word.is,
             here.links,
           )
     ]

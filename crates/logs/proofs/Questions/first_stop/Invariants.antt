@@ -10,13 +10,13 @@ use Rattle.logs.proofs.Questions.first_stop.Given as goal
 
 abbrev pub invariant-loop-to : goal.invariant-loop-to
 invariant-loop-to g l =
-    HeardIn (g.H.Hear.heard l.hearer) g.H.Hear.row_of l.self.most l.self.log.now l.self.n l.at l.others l.row × (l.initial.at ≤ l.at)
+    HeardIn (g.H.Hear.heard l.hearer) g.H.Hear.row_of l.self.most l.self.log.now l.self.n l.start l.at l.others l.row × (l.initial.at ≤ l.at)
 
 abbrev pub decreases-loop-to : goal.decreases-loop-to
 decreases-loop-to g l = length l.self.log.now - l.at
 
 abbrev pub invariant-log : goal.invariant-log
-invariant-log g l = HeardAt (g.H.Hear.heard l.hearer) l.self.most l.self.log.now l.self.n l.at l.others
+invariant-log g l = HeardAt (g.H.Hear.heard l.hearer) l.self.most l.self.log.now l.self.n l.start l.at l.others
 
 abbrev pub decreases-log : goal.decreases-log
 decreases-log g l = length l.self.log.now - l.at

@@ -4,7 +4,7 @@ use Rattle.writing.proofs.Chains.write_threads.Goals as goal
 use Rattle.writing.proofs.Chains.write_threads.Goals.{then-is_member, else-is_member}
 
 pub loop-v-init : goal.loop-v-init
-loop-v-init c = bundling_none _ _ _
+loop-v-init c = bundling_none _ _ _ _
 
 pub write_thread-count-requires : goal.write_thread-count-requires
 write_thread-count-requires c = (

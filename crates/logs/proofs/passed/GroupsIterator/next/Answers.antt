@@ -6,7 +6,7 @@ use Prim.Native.Nat.{◌+◌, ◌<◌}
 use native.Mathlib.Omega.{arith}
 use lib.ListN.{length}
 use Rattle.logs.specs.Log.{to_before_last}
-use Rattle.logs.proofs.Walk.{to_behind, starts_next, words_before}
+use Rattle.logs.proofs.Walk.{group_behind, to_behind, starts_next, words_before}
 use Rattle.logs.proofs.passed.GroupsIterator.next.Goals as goal
 use Rattle.logs.proofs.passed.GroupsIterator.next.Goals.{Else-at-words}
 
@@ -23,6 +23,7 @@ pub invariant_of-self : goal.invariant_of-self
 invariant_of-self c =
     let s = c.args.self.now in
     let group = c.group_end-end.ensures in
+    let behind = group_behind s.log.words.now s.log.episodes s.log.to_words s.log.passes s.at s.here (omega (arith, c.if-at-words.false, s.here.within)) in
     record { here = starts_next s.log.words.now s.log.episodes s.log.to_words s.log.passes (s.at + 2) _ (omega arith) group.0 group.1 }
 
 pub returns-clause-steps : goal.returns-clause-steps

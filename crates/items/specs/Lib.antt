@@ -1,0 +1,3 @@
+-- The items in the work words.
+pub mod Listed
+pub mod Pairing
