@@ -214,39 +214,65 @@ pub fn faults(model: bool) -> bool {
     program::faults(!model) && services
 }
 
-fn faults_of<S: Services>(services: impl Fn() -> S, older: Older) -> bool {
-    let mut good = true;
-    let mut caught: Vec<Check> = Vec::new();
+/// What the run of a fault comes to.
+struct Tried {
+    lines: Vec<String>,
+    caught: Vec<Check>,
+    good: bool,
+}
+
+/// Runs one fault: against all checks, then against the properties and the worked cases alone, then beside the library without it.
+fn tried<S: Services>(index: usize, services: &impl Fn() -> S, older: Older) -> Tried {
+    let (fault, what) = FAULTS[index];
     let listed = |checks: &[Check]| checks.iter().map(|&check| name(check)).collect::<Vec<_>>().join(", ");
-    // The message of a panic that is one of the faults is not printed.
-    std::panic::set_hook(Box::new(|_| {}));
-    println!("number | fault | calls | caught by | by properties and worked cases alone");
-    for (index, &(fault, what)) in FAULTS.iter().enumerate() {
-        let alone = bare_catch(Faulty::new(fault, services()));
-        match random_catch(Caller::new(Faulty::new(fault, services()))) {
-            Some((calls, checks)) => {
-                let alone_text = if alone.is_empty() { "-".to_string() } else { listed(&alone) };
-                println!("{index} | {what} | {calls} | {} | {alone_text}", listed(&checks));
-                caught.extend(checks);
-            }
-            None => {
-                println!("{index} | {what} | NOT CAUGHT in {} calls | - | -", grouped(DEFAULT_CALLS));
-                good = false;
-            }
+    let (mut lines, mut good) = (Vec::new(), true);
+    let mut caught = bare_catch(Faulty::new(fault, services()));
+    match random_catch(Caller::new(Faulty::new(fault, services()))) {
+        Some((calls, checks)) => {
+            let alone = if caught.is_empty() { "-".to_string() } else { listed(&caught) };
+            lines.push(format!("{index} | {what} | {calls} | {} | {alone}", listed(&checks)));
+            caught.extend(checks);
         }
-        caught.extend(alone);
-        let beside = older_catch(Faulty::new(fault, services()), older);
-        if !beside.iter().any(|check| matches!(check, Check::Older | Check::Ends)) {
-            println!("{index} | {what} | NOT CAUGHT beside the library without it | - | -");
+        None => {
+            lines.push(format!("{index} | {what} | NOT CAUGHT in {} calls | - | -", grouped(DEFAULT_CALLS)));
             good = false;
         }
-        caught.extend(beside);
+    }
+    let beside = older_catch(Faulty::new(fault, services()), older);
+    if !beside.iter().any(|check| matches!(check, Check::Older | Check::Ends)) {
+        lines.push(format!("{index} | {what} | NOT CAUGHT beside the library without it | - | -"));
+        good = false;
+    }
+    caught.extend(beside);
+    Tried { lines, caught, good }
+}
+
+/// The faults in as many threads as there are cores, told in their order.
+fn faults_of<S: Services>(services: impl Fn() -> S + Sync, older: Older) -> bool {
+    let threads = std::thread::available_parallelism().map_or(1, usize::from);
+    let share = |first: usize| {
+        (first..FAULTS.len()).step_by(threads).map(|index| (index, tried(index, &services, older))).collect::<Vec<_>>()
+    };
+    // The message of a panic that is one of the faults is not printed.
+    std::panic::set_hook(Box::new(|_| {}));
+    let shares: Vec<_> = std::thread::scope(|scope| {
+        let running: Vec<_> = (0..threads).map(|first| scope.spawn(move || share(first))).collect();
+        running.into_iter().map(|thread| thread.join()).collect()
+    });
+    drop(std::panic::take_hook());
+    let mut all: Vec<(usize, Tried)> = shares.into_iter().flat_map(|share| share.expect("a thread ends")).collect();
+    all.sort_by_key(|tried| tried.0);
+    println!("number | fault | calls | caught by | by properties and worked cases alone");
+    let (mut good, mut caught) = (true, Vec::new());
+    for (_, tried) in all {
+        tried.lines.iter().for_each(|line| println!("{line}"));
+        good &= tried.good;
+        caught.extend(tried.caught);
     }
     for (check, name, _) in CHECKS.iter().filter(|row| !caught.contains(&row.0)) {
         println!("NO FAULT is caught by the check {name} ({check:?})");
         good = false;
     }
-    drop(std::panic::take_hook());
     if good {
         println!("{} faults, each caught; {} checks, each of which caught a fault", FAULTS.len(), CHECKS.len());
     }

@@ -1,14 +1,15 @@
--- The rows that the digits of a word name, joined into a row, from the lowest digit on.
+-- The rows that the digits of a word name, joined into a row, from the lowest digit on; and the bits of words taken together.
 use mathlib.Core.Path.{◌≡◌, refl, sym, ◌∙◌}
 use mathlib.Core.Logic.{◌⊎◌, inl, inr}
 use mathlib.Core.List.{List}
-use Prim.Native.Nat.{ℕ, ◌+◌, ◌*◌, ◌<◌}
+use Prim.Native.Nat.{ℕ, ◌+◌, ◌*◌, ◌/◌, ◌%◌, ◌≤◌, ◌<◌}
 use native.Mathlib.Decide.{ℕ_discrete, dec_lt}
 use native.Mathlib.Omega.{arith}
-use lib.ListN.{length}
+use lib.ListN.{length, get_or}
+use lib.Bits.{bit_or}
 use Rattle.bits.specs.Bits.{digit, bit, RowAdded, RowsAdded}
 use Rattle.bits.specs.Ones.{LowestTaken}
-use Rattle.bits.proofs.Digits.{Rest, rest_start, rest_here, rest_on, rest_none, rest_end}
+use Rattle.bits.proofs.Digits.{digit_or, digit_none, Rest, rest_start, rest_here, rest_on, rest_none, rest_end}
 use Rattle.bits.proofs.Rows.{bit_lt}
 
 -- after the digits below `k`
@@ -77,3 +78,29 @@ taking_end {w} {v} {v'} {base} {x} s e =
     new : (j c : ℕ) → j < 32 → c < 256 → digit x j ≡ 1 → bit w (base + 8 * j) c ≡ 1 → Dec (j < s.k) → bit v' 0 c ≡ 1
     new j c l hc d o (yes h) = s.new j c h hc d o
     new j c l hc d o (no h) = let z = rest_end s.digits e j (omega arith) in absurd (omega arith)
+
+-- ---- the bits of words taken together
+
+-- `all` has the bits of the first `i` words of `v`
+abbrev pub Gathered : List ℕ → ℕ → ℕ → Type 0
+Gathered v i all = (j b : ℕ) → j < i → digit all b ≡ 0 → digit (get_or v j 0) b ≡ 0
+
+pub gathered_none : (v : List ℕ) (all : ℕ) → Gathered v 0 all
+gathered_none v all = λ j b l. absurd (omega arith)
+
+pub gathered_more : (v : List ℕ) (i all x : ℕ) → x ≡ get_or v i 0 → Gathered v i all → Gathered v (i + 1) (bit_or all x)
+gathered_more v i all x is g = λ j b l z. go j b l z (ℕ_discrete j i)
+  where
+    both : (b : ℕ) → digit (bit_or all x) b ≡ 0 → (digit all b ≡ 0) × (digit x b ≡ 0)
+    both b z = let m = digit_or all x b in (omega arith, omega arith)
+
+    go : (j b : ℕ) → j < i + 1 → digit (bit_or all x) b ≡ 0 → Dec (j ≡ i) → digit (get_or v j 0) b ≡ 0
+    go j b l z (yes e) = rw (e, sym is) (both b z).1
+    go j b l z (no ne) = g j b (omega (arith, ne)) (both b z).0
+
+-- none of them has one
+pub gathered_end : (v : List ℕ) {i all : ℕ} → 8 ≤ i → all ≡ 0 → Gathered v i all → (b : ℕ) → b < 256 → bit v 0 b ≡ 0
+unfolding bit
+gathered_end v h e g b l =
+    let f : 0 + b / 32 ≡ b / 32 = omega arith in
+    rw f (g (b / 32) (b % 32) (omega arith) (rw e (digit_none (b % 32))))

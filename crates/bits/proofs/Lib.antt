@@ -4,4 +4,5 @@ pub mod Parts
 pub mod Rows
 pub mod Joins
 pub mod Frames
+pub mod Left
 pub mod Pairs

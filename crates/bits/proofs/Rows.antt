@@ -15,9 +15,7 @@ use lib.Pow.{pow_mono}
 use lib.Bits.{bit_or, or_zero_r}
 use lib.Count.{count_trailing_zeros}
 use mir.Val.{bool_byte}
-use Rattle.bits.specs.Bits.{digit, bit, BitSet, SetWhere, RowAdded, RowLess, FirstFrom, WordOf, NextNew}
-use Rattle.bits.specs.Ones.{BitGiven}
-use Rattle.bits.specs.declared.ones.Row.{Row}
+use Rattle.bits.specs.Bits.{digit, bit, BitSet, SetWhere, RowAdded, RowLess, NextNew}
 use Rattle.bits.proofs.Digits.{mask, digit_lt, digit_or, digit_shr, digit_one, digit_other, digit_trailing, digit_below, digit_none}
 
 pub bit_lt : (w : List ℕ) (row b : ℕ) → bit w row b < 2
@@ -143,6 +141,17 @@ row_added s e = record { same_length = s.same_length; joined = joined_bit s e }
 
 -- ---- the first bit from a place on
 
+-- `r` is the first from `from` on of the 256 bits, or 256
+pub record FirstFrom (bits : ℕ → ℕ) (from r : ℕ) : Type 0 where
+  pub at_least : from ≤ r
+  pub at_most : r ≤ 256
+  pub here : r < 256 → bits r ≡ 1
+  pub passed : (c : ℕ) → from ≤ c → c < r → bits c ≡ 0
+
+-- the digits of `x` are those of word `i` of the 256 bits
+abbrev pub WordOf : (ℕ → ℕ) → ℕ → ℕ → Type 0
+WordOf bits i x = (j : ℕ) → j < 32 → digit x j ≡ bits (32 * i + j)
+
 -- the bits of word `i` of a row are its digits
 pub bit_digit : (w : List ℕ) (row i j : ℕ) → j < 32 → bit w row (32 * i + j) ≡ digit (get_or w (row + i) 0) j
 unfolding bit
@@ -260,10 +269,3 @@ first_new {w} {row} {seen} {from} {r} f =
       new = λ h. new_bit w w row seen r (f.here h);
       passed = λ c lo hi o. omega (arith, f.passed c lo hi, bit_lt w seen c);
     }
-
--- ---- the bits of a row, one by one
-
-pub bit_given : (s t : Row) (b : ℕ) → FirstFrom (bit s.words.now s.row) s.from b → b < 256 → t.words.now ≡ s.words.now → t.row ≡ s.row
-    → t.from ≡ b + 1 → BitGiven s b t
-bit_given s t b f h w r e =
-    record { words = w; row = r; from = e; at_least = f.at_least; below = h; here = f.here h; passed = f.passed }

@@ -57,17 +57,6 @@ pub record RowLess (w : List ℕ) (row : ℕ) (u v : List ℕ) : Type 0 where
   pub eight : length v ≡ 8
   pub less : (i j : ℕ) → i < 8 → digit (get_or v i 0) j ≡ digit (get_or w (row + i) 0) j - digit (get_or u i 0) j
 
--- `r` is the first from `from` on of the 256 bits, or 256
-pub record FirstFrom (bits : ℕ → ℕ) (from r : ℕ) : Type 0 where
-  pub at_least : from ≤ r
-  pub at_most : r ≤ 256
-  pub here : r < 256 → bits r ≡ 1
-  pub passed : (c : ℕ) → from ≤ c → c < r → bits c ≡ 0
-
--- the digits of `x` are those of word `i` of the 256 bits
-abbrev pub WordOf : (ℕ → ℕ) → ℕ → ℕ → Type 0
-WordOf bits i x = (j : ℕ) → j < 32 → digit x j ≡ bits (32 * i + j)
-
 -- `r` is the first bit of the row at `row`, or 256
 pub record FirstBit (w : List ℕ) (row r : ℕ) : Type 0 where
   pub at_most : r ≤ 256

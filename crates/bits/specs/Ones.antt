@@ -1,6 +1,7 @@
 -- What the iterators over the bits of a word and of a row give.
-use Rattle.std.specs.Prelude.{◌≡◌, Option, MatchOption, ◌≢◌, ℕ, ◌+◌, ◌≤◌, ◌<◌}
-use Rattle.bits.specs.Bits.{digit, bit}
+use Rattle.std.specs.Prelude.{◌≡◌, true, false, Option, MatchOption, ◌≢◌, List, ℕ, ◌+◌, ◌-◌, ◌*◌, ◌/◌, ◌%◌, ◌<◌, eqb, ltb, get_or}
+use lib.Count.{count_trailing_zeros}
+use Rattle.bits.specs.Bits.{digit}
 use Rattle.bits.specs.declared.ones.Ones.{Ones}
 use Rattle.bits.specs.declared.ones.Row.{Row}
 
@@ -16,16 +17,26 @@ pub record LowestTaken (x b y : ℕ) : Type 0 where
 abbrev pub GivesOne : Ones → Option ℕ → Ones → Type 0
 GivesOne s r t = MatchOption r ((s.rest ≡ 0) × (t ≡ s)) (λ b. LowestTaken s.rest b t.rest)
 
--- `b` is the first bit that is left of the row, and `t` has those behind it
+-- word `i` of the row at `row`, as it is left where the words before `place` are given and `rest` is left of the one there
+unfoldable pub word_left : List ℕ → ℕ → ℕ → ℕ → ℕ → ℕ
+word_left w row place rest i = elim (ltb i place) [ true ↦ 0 | false ↦ elim (eqb i place) [ true ↦ rest | false ↦ get_or w (row + i) 0 ] ]
+
+-- bit `b` of the row, as it is left
+unfoldable pub left : Row → ℕ → ℕ
+left s b = digit (word_left s.words.now s.row s.place s.ones.rest (b / 32)) (b % 32)
+
+-- no fewer than are left
+abbrev pub bits_left : Row → ℕ
+bits_left s = 32 * (7 - s.place) + (32 - count_trailing_zeros 32 s.ones.rest)
+
+-- `b` is the first bit that is left, and `t` has those behind it
 pub record BitGiven (s : Row) (b : ℕ) (t : Row) : Type 0 where
-  pub words : t.words.now ≡ s.words.now
-  pub row : t.row ≡ s.row
-  pub from : t.from ≡ b + 1
-  pub at_least : s.from ≤ b
   pub below : b < 256
-  pub here : bit s.words.now s.row b ≡ 1
-  pub passed : (c : ℕ) → s.from ≤ c → c < b → bit s.words.now s.row c ≡ 0
+  pub here : left s b ≡ 1
+  pub lower : (c : ℕ) → c < b → left s c ≡ 0
+  pub taken : left t b ≡ 0
+  pub others : (c : ℕ) → c ≢ b → left t c ≡ left s c
 
 -- the first bit that is left, or none where none is
 abbrev pub GivesBit : Row → Option ℕ → Row → Type 0
-GivesBit s r t = MatchOption r (((c : ℕ) → s.from ≤ c → c < 256 → bit s.words.now s.row c ≡ 0) × (t ≡ s)) (λ b. BitGiven s b t)
+GivesBit s r t = MatchOption r (((c : ℕ) → c < 256 → left s c ≡ 0) × (t ≡ s)) (λ b. BitGiven s b t)

@@ -3,12 +3,13 @@
 // since neither has a `From` for the other.
 #![tactic(auto)]
 
-ghost use Rattle.std.specs.Prelude.{◌≡◌, ℕ, ◌+◌, ◌-◌, ◌*◌, ◌/◌, ◌<◌, ◌≤◌, IfSome, eqb, length, get_or, replicate};
-ghost use Rattle.bits.specs.Bits.{digit, bit, BitSet, SetWhere, RowJoined, RowAdded, RowsAdded, RowGained, RowTaken, RowLess, RowCopied, FirstFrom, WordOf, FirstBit, NextNew, place_or_end};
+ghost use Rattle.std.specs.Prelude.{◌≡◌, false, ℕ, ◌+◌, ◌-◌, ◌*◌, ◌/◌, ◌<◌, ◌≤◌, IfSome, eqb, length, get_or, replicate};
+ghost use Rattle.bits.specs.Ones.{left};
+ghost use Rattle.bits.specs.Bits.{digit, bit, BitSet, SetWhere, RowJoined, RowAdded, RowsAdded, RowGained, RowTaken, RowLess, RowCopied, FirstBit, NextNew, place_or_end};
 
 pub mod ones;
 
-pub use ones::{Ones, Row, bits_of, ones_of};
+pub use ones::{Ones, Row, ones_of};
 use std::array;
 
 // The regions of the work words: the links and the ways, each a row of bits for each episode, and the pairs of items, a row for each item; the tables
@@ -151,24 +152,28 @@ pub fn row_without(w: &[u32], row: usize, other: &[u32; 8]) -> [u32; 8]
     array::from_fn(|i| without(w[row + i], other[i]))
 }
 
-// The first bit from `from` on of the row of eight words that `word_of` gives.
-fn first_from<F: Fn(usize) -> u32>(word_of: F, from: usize) -> Option<usize>
-    requires called { (i : ℕ) → i < 8 → F.pre word_of i }
-    requires within { from ≤ 256 }
-    ensures first { (bits : ℕ → ℕ) → ((i x : ℕ) → i < 8 → F.post word_of i x → WordOf bits i x) → FirstFrom bits from (place_or_end result) }
-    ensures below { IfSome result (λ b. b < 256) }
+// Whether the row `v` has a bit.
+pub fn any(v: &[u32; 8]) -> bool
+    ensures { result ≡ false → (b : ℕ) → b < 256 → bit v.now 0 b ≡ 0 }
 {
-    // By hand: a range over the words would be no plainer, since the first word is shifted and the others are not.
-    let mut at = from;
-    while at < 256 {
-        let i = at / 32;
-        let ones = word_of(i) >> (at % 32);
-        if ones != 0 {
-            return Some(at + ones.trailing_zeros() as usize);
-        }
-        at = (i + 1) * 32;
+    let mut all = 0;
+    for word in v {
+        all |= *word;
     }
-    None
+    all != 0
+}
+
+// The bits of the row that starts at word `row`.
+pub fn bits_of(w: &[u32], row: usize) -> Row<'_>
+    requires { row + 8 ≤ length w.now }
+    ensures { (b : ℕ) → left result b ≡ bit w.now row b }
+{
+    Row {
+        words: w,
+        row,
+        place: 0,
+        ones: ones_of(w[row]),
+    }
 }
 
 // The first bit of the row that starts at word `row`.
@@ -186,7 +191,17 @@ pub fn next_new(w: &[u32], row: usize, seen: usize, from: usize) -> Option<usize
     ensures first { NextNew w.now row seen from (place_or_end result) }
     ensures below { IfSome result (λ b. b < 256) }
 {
-    first_from(|i| without(w[row + i], w[seen + i]), from)
+    // By hand: a range over the words would be no plainer, since the first word is shifted and the others are not.
+    let mut at = from;
+    while at < 256 {
+        let i = at / 32;
+        let ones = without(w[row + i], w[seen + i]) >> (at % 32);
+        if ones != 0 {
+            return Some(at + ones.trailing_zeros() as usize);
+        }
+        at = (i + 1) * 32;
+    }
+    None
 }
 
 // Makes every word zero.

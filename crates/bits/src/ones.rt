@@ -1,9 +1,7 @@
 // The bits of a word and of a row, one by one, the lowest first. A bit is a usize, as places are, and `as` makes it one of a u32.
-ghost use Rattle.std.specs.Prelude.{◌≡◌, ◌+◌, ◌-◌, ◌≤◌, length};
+ghost use Rattle.std.specs.Prelude.{◌≡◌, ◌+◌, ◌-◌, ◌<◌, ◌≤◌, length};
 ghost use Rattle.std.specs.Iterator.{at_most};
 ghost use lib.Count.{count_trailing_zeros};
-
-use crate::first_from;
 
 // The bits of a word that are left to give.
 #[derive(Clone, Copy)]
@@ -38,42 +36,42 @@ impl Iterator for Ones {
     }
 }
 
-// The bits from `from` on of the row that starts at word `row`.
+// The bits of a row that are left to give: those of the words behind `place`, and in the word there those of `ones`.
 #[derive(Clone, Copy)]
 pub struct Row<'a> {
     pub words: &'a [u32],
     pub row: usize,
-    pub from: usize,
+    pub place: usize,
+    pub ones: Ones,
     ghost within: { row + 8 ≤ length words.now },
-    ghost at_most: { from ≤ 256 },
-}
-
-// The bits of the row that starts at word `row`.
-pub fn bits_of(words: &[u32], row: usize) -> Row<'_>
-    requires { row + 8 ≤ length words.now }
-    ensures { (result.words.now ≡ words.now) × (result.row ≡ row) × (result.from ≡ 0) }
-{
-    Row {
-        words,
-        row,
-        from: 0,
-    }
+    ghost below: { place < 8 },
 }
 
 impl<'a> Iterator for Row<'a> {
     type Item = usize;
 
-    ghost use Rattle.bits.specs.Ones.{GivesBit};
+    ghost use Rattle.bits.specs.Ones.{GivesBit, bits_left};
 
     ghost next_gives = { GivesBit };
 
-    ghost remaining = { λ s. at_most (256 - s.from) };
+    ghost remaining = { λ s. at_most (bits_left s) };
 
     fn next(&mut self) -> Option<usize> {
         let words = self.words;
         let row = self.row;
-        let bit = first_from(|i| words[row + i], self.from)?;
-        self.from = bit + 1;
-        Some(bit)
+        let mut place = self.place;
+        let mut ones = self.ones;
+        loop {
+            if let Some(bit) = ones.next() {
+                self.place = place;
+                self.ones = ones;
+                return Some(32 * place + bit);
+            }
+            place += 1;
+            if place == 8 {
+                return None;
+            }
+            ones = ones_of(words[row + place]);
+        }
     }
 }

@@ -1,6 +1,6 @@
 -- Hearing the links of a log while its groups are passed over: what holds where a group begins or the log ends, and what holds among the to
 -- words of a group. `heard` says which links a hearer has heard, `row_of` gives the rows of the episodes.
-use mathlib.Core.Path.{◌≡◌, ◌∙◌, ap, sym}
+use mathlib.Core.Path.{◌≡◌, refl, ◌∙◌, ap, sym}
 use mathlib.Core.Logic.{⊎_elim}
 use mathlib.Core.Bool.{Bool, true, false}
 use mathlib.Core.List.{List, [], ◌++◌}
@@ -8,6 +8,7 @@ use Rattle.std.specs.Prelude.{Result, Ok}
 use Prim.Native.Nat.{ℕ, ◌+◌, ◌-◌, ◌<◌, ◌≤◌, ◌^◌}
 use native.Mathlib.Omega.{arith}
 use lib.Dec.{ltb}
+use Rattle.std.proofs.lemmas.Bool.{lt-ltb}
 use lib.ListN.{length, get_or, drop, length-append}
 use Rattle.logs.specs.Words.{kind, number, to_episode, to_pause}
 use Rattle.logs.specs.Content.{short_enough}
@@ -39,6 +40,7 @@ pub record HeardAt (heard : List (ℕ × ℕ) → Type 0) (m : Ceilings) (l : Li
   pub others_few : others ≤ p
   pub links : heard (short_before l p)
   pub few : length (short_before l p) ≤ p - others
+  pub moved : ltb others p ≡ ltb start p
 
 -- at `p` a to word stands behind the from word of its group, whose row is `row`, and the links before it that count by their own
 -- pause were heard
@@ -63,6 +65,7 @@ module _ (heard : List (ℕ × ℕ) → Type 0) (m : Ceilings) (l : List ℕ) (n
         others_few = omega arith;
         links = rw none h;
         few = rw none (omega arith);
+        moved = refl;
       }
 
   -- behind the from word of a group
@@ -156,7 +159,14 @@ module _ (heard : List (ℕ × ℕ) → Type 0) (takes : ℕ → Type 0) (row_of
     pub heard_behind : to_before_last l (p + 1) ≡ false → HeardAt heard' m l n start (p + 1) others
     heard_behind other =
         let others_few = h.others_few in
-        record { group = group_ends m l n start (p + 1) (p + 1 - others) group other; others_some = h.others_some; others_few = omega arith; links = all_heard; few = all_few }
+        record {
+          group = group_ends m l n start (p + 1) (p + 1 - others) group other;
+          others_some = h.others_some;
+          others_few = omega arith;
+          links = all_heard;
+          few = all_few;
+          moved = lt-ltb others (p + 1) (omega arith) ∙ sym (lt-ltb start (p + 1) group.behind_from);
+        }
 
 -- where the questions stop at a word that is taken, the log passes, the links before it are those of the log, and its voices words stand before `start`
 module _ (m : Ceilings) (l : List ℕ) (n v start place count : ℕ) (a : ℕ × ℕ × ℕ) (long : 2 ≤ length l)

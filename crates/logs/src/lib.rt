@@ -367,10 +367,11 @@ const MOST_WITH_VOICES: usize = 120;
 
 const MOST_VOICES: u32 = 2;
 
-// A place of the log, and the count of to words before it.
+// A place of the log, whether a from word stands before it, and the count of to words before it.
 #[derive(Clone, Copy)]
 struct Stop {
     place: usize,
+    from: bool,
     count: usize,
 }
 
@@ -490,7 +491,7 @@ impl<'a> Questions<'a> {
         requires { BehindVoices self.log.now start × (version ≡ (content_of self.log.now).version) × (self.n ≤ self.most.episodes) × H.takes self.most.episodes
             × H.heard hearer.old [] }
         ensures { Stopped self.entry.most self.entry.log.now self.entry.n start result.place result.count
-            × H.heard hearer.new (short_before self.entry.log.now result.place) }
+            × H.heard hearer.new (short_before self.entry.log.now result.place) × (result.from ≡ ltb start result.place) }
     {
         let log = self.log;
         let last = log.len() - 1;
@@ -498,14 +499,14 @@ impl<'a> Questions<'a> {
         // How many words before `at` are no to words: the head, the voices words and the from words.
         let mut others = start;
         // Left by a label that carries the place, as the scope asks; an iterator has groups only of a log that has passed.
-        let place = 'log: loop {
+        let (place, from) = 'log: loop {
             if at == last {
-                break 'log at;
+                break 'log (at, others < at);
             }
-            // A group starts with its from word, which answers question 5 for its to words, and question 6 says that it has one. A to word is
-            // met here only at `start`, before any from word, and refused.
-            let Ok(LogWord::From(from)) = self.group_word(at, start < at, at - others) else {
-                break 'log at;
+            // A group starts with its from word, which answers question 5 for its to words, and question 6 says that it has one. So behind `start`
+            // a to word stands before `at`, and `others` is less; a to word at `start` has no from word before it, and is refused.
+            let Ok(LogWord::From(from)) = self.group_word(at, others < at, at - others) else {
+                break 'log (at, others < at);
             };
             let row = H::row(from);
             at += 1;
@@ -513,7 +514,7 @@ impl<'a> Questions<'a> {
             // Its to words.
             loop {
                 let Ok(to) = self.to_word(at, log[at], at - others) else {
-                    break 'log at;
+                    break 'log (at, true);
                 };
                 tell(version, hearer, row, to);
                 at += 1;
@@ -523,7 +524,7 @@ impl<'a> Questions<'a> {
             }
         };
         let count = place - others;
-        Stop { place, count }
+        Stop { place, from, count }
     }
 }
 
@@ -548,7 +549,7 @@ pub fn read_hearing<H: Hear>(
     let asked = Questions { most, log, n };
     let start = asked.voices_end()?;
     let stop = asked.first_stop(start, head.version, hearer);
-    asked.log_word(stop.place, start < stop.place, stop.count)?;
+    asked.log_word(stop.place, stop.from, stop.count)?;
     Ok(Reading {
         episodes: n,
         to_words: stop.count,

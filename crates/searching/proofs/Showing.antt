@@ -1,16 +1,18 @@
 -- What an item of the queue shows: from one new item to the next, up to one with none before it or to the last.
 use Rattle.std.proofs.lemmas.Grind.{common_steps}
-use Rattle.std.specs.Prelude.{Option, Some}
-use mathlib.Core.Path.{◌≡◌, sym, ◌∙◌}
+use mathlib.Core.Path.{◌≡◌, refl, sym, ap, ◌∙◌}
+use mathlib.Core.Logic.{◌≢◌}
 use mathlib.Core.List.{List}
-use Prim.Native.Nat.{ℕ, ◌+◌, ◌*◌, ◌≤◌, ◌<◌}
+use Prim.Native.Nat.{ℕ, ◌+◌, ◌-◌, ◌*◌, ◌≤◌, ◌<◌}
+use native.Mathlib.Decide.{ℕ_discrete}
 use native.Mathlib.Omega.{arith}
 use lib.ListN.{length}
-use Rattle.bits.specs.Bits.{NextNew, place_or_end}
+use Rattle.bits.specs.Bits.{bit, RowTaken, RowLess}
 use Rattle.bits.specs.Work.{next_at, via_at, seen_at, dead_at, Outside}
 use Rattle.searching.specs.Items.{Tables, SameChains, Matching, Searching, Saw, Flipped}
-use Rattle.searching.specs.State.{tables, deads, Pairs, Sized, SawIn, ShownIn}
-use Rattle.bits.proofs.Frames.{outside_then}
+use Rattle.searching.specs.State.{tables, deads, Pairs, Sized, SawIn, ShowAsked, ShownIn}
+use Rattle.bits.proofs.Frames.{outside_none, outside_then}
+use Rattle.bits.proofs.Rows.{bit_lt, bit_less}
 use Rattle.searching.proofs.Frames.{pairs_kept, pairs_were}
 use Rattle.searching.proofs.Relations.{Within}
 use Rattle.searching.proofs.Searches.{matching_same, saw_matching, saw_searching, item_done, found}
@@ -43,9 +45,8 @@ module _ {w w' : List ℕ} {base m lo hi : ℕ} (s : Sized w base m) (le : next_
 
 -- ---- the loop of `show`
 
--- The item at `head` has shown what it has below `from`, and `next` is the first from there on that it has and that was not seen; the words
--- were `w₀`.
-pub record Showing (w₀ w : List ℕ) (base m head row end : ℕ) (next : Option ℕ) : Type 0 where
+-- The item at `head` has shown what it has below `from`; `rest` is what it has that is not seen. The words were `w₀`.
+pub record Showing (w₀ w : List ℕ) (base m head end : ℕ) (rest : ℕ → ℕ) : Type 0 where
   pub from : ℕ
   pub sized : Sized w base m
   pub outside : Outside via_at dead_at w₀ w
@@ -53,43 +54,67 @@ pub record Showing (w₀ w : List ℕ) (base m head row end : ℕ) (next : Optio
   pub searching : Searching m (Pairs base w₀) (deads w₀) (tables w) head from end
   pub inside : head < end
   pub source : (tables w).queue 0 ≡ (tables w₀).queue 0
-  pub row_is : row ≡ base + 8 * (tables w).queue head
-  pub first : NextNew w row seen_at from (place_or_end next)
+  pub rest_is : (c : ℕ) → c < 256 → rest c ≡ bit w₀ (base + 8 * (tables w).queue head) c - (tables w).seen c
 
-module _ {w₀ w : List ℕ} {base m head row end : ℕ} {next : Option ℕ} (s : Showing w₀ w base m head row end next) where
-  z : Sized w₀ base m
-  z = sized_kept (sym s.outside.same_length) s.sized
+-- nothing is shown: `new` is the row of the item without what is seen
+pub showing_start : {w u new : List ℕ} {base m head tail row : ℕ} → ShowAsked w base m head tail → row ≡ base + 8 * (tables w).queue head
+    → RowTaken w seen_at u → RowLess w row u new → Showing w w base m head tail (bit new 0)
+showing_start {w} {row = row} p is t l =
+    record {
+      from = 0;
+      sized = p.0;
+      outside = outside_none via_at dead_at w;
+      matching = p.1;
+      searching = p.2;
+      inside = p.3;
+      source = refl;
+      rest_is = λ c h. rw (sym is) (bit_less l c h ∙ ap (λ (x : ℕ). bit w row c - x) (t.taken c h));
+    }
 
-  low : (tables w).queue head < m
-  low = s.searching.queued head s.inside
+-- the same bits
+pub showing_same : {w₀ w : List ℕ} {base m head end : ℕ} {rest other : ℕ → ℕ} → ((c : ℕ) → other c ≡ rest c) → Showing w₀ w base m head end rest
+    → Showing w₀ w base m head end other
+showing_same e s =
+    record {
+      from = s.from;
+      sized = s.sized;
+      outside = s.outside;
+      matching = s.matching;
+      searching = s.searching;
+      inside = s.inside;
+      source = s.source;
+      rest_is = λ c h. e c ∙ s.rest_is c h;
+    }
 
-  -- what it has before `next` was seen
-  gap : (c : ℕ) → s.from ≤ c → c < place_or_end next → c < m → Pairs base w₀ ((tables w).queue head) c → (tables w).seen c ≡ 1
-  gap c lo hi cl q = s.first.passed c lo hi (rw s.row_is (forth z (omega arith) s.outside ((tables w).queue head) c low cl q))
+module _ {w₀ w : List ℕ} {base m head end : ℕ} {rest : ℕ → ℕ} (s : Showing w₀ w base m head end rest) where
+  -- of what it has, nothing is left that is not seen
+  all_seen : (c : ℕ) → c < 256 → rest c ≡ 0 → Pairs base w₀ ((tables w).queue head) c → (tables w).seen c ≡ 1
+  all_seen c h z q = omega (arith, s.rest_is c h, bit_lt w seen_at c)
 
   -- it has shown all
-  pub showing_end : m ≤ place_or_end next → ShownIn w₀ w base m head m end
-  showing_end le =
+  pub showing_end : ((c : ℕ) → c < m → rest c ≡ 0) → ShownIn w₀ w base m head m end
+  showing_end none =
       record {
         outside = s.outside;
         source = s.source;
         item_le = omega arith;
-        done = λ e. item_done s.searching s.inside (λ c lo cl q. gap c lo (omega arith) cl q);
+        done = λ e. item_done s.searching s.inside (λ c lo cl q. all_seen c (omega (arith, s.sized.items)) (none c cl) q);
         found = λ l. absurd (omega arith);
       }
 
-  -- `b` is next, and is seen; the words are now `w'`
-  module _ {w' : List ℕ} {b : ℕ} (is : next ≡ Some b) (bl : b < m) (i : SawIn w w' head b end) where
+  -- `b` is the first of the rest, and is seen; the words are now `w'`
+  module _ {w' : List ℕ} {b : ℕ} (here : rest b ≡ 1) (lower : (c : ℕ) → c < b → rest c ≡ 0) (bl : b < m) (i : SawIn w w' head b end) where
     saw : Saw m (tables w) (tables w') head b end
     saw = saw_fewer (omega (arith, s.sized.items)) i.saw
 
-    place : place_or_end next ≡ b
-    place = cc
+    few : m < 256
+    few = s.sized.items
 
     new : Pairs base w₀ ((tables w).queue head) b × ((tables w).seen b ≡ 0)
     new =
-        let (p, q) = (rw place at s.first).new (omega (arith, z.items)) in
-        (back z (omega arith) s.outside ((tables w).queue head) b low bl (rw s.row_is at p), q)
+        let e = s.rest_is b (omega (arith, few)) in
+        let l = bit_lt w₀ (base + 8 * (tables w).queue head) b in
+        (omega (arith, here), omega (arith, here))
 
     outside' : Outside via_at dead_at w₀ w'
     outside' = outside_then s.outside i.outside
@@ -97,23 +122,28 @@ module _ {w₀ w : List ℕ} {base m head row end : ℕ} {next : Option ℕ} (s 
     source' : (tables w').queue 0 ≡ (tables w₀).queue 0
     source' = saw.queue_same 0 (omega (arith, s.inside)) ∙ s.source
 
-    -- with an item before it; `next'` is the next one
-    pub showing_more : {next' : Option ℕ} → 0 < (tables w').prev b → NextNew w' row seen_at (b + 1) (place_or_end next')
-        → Showing w₀ w' base m head row (end + 1) next'
-    showing_more pos n =
+    -- with an item before it; `rest'` is the rest without it
+    pub showing_more : {rest' : ℕ → ℕ} → 0 < (tables w').prev b → rest' b ≡ 0 → ((c : ℕ) → c ≢ b → rest' c ≡ rest c)
+        → Showing w₀ w' base m head (end + 1) rest'
+    showing_more {rest'} pos taken others =
         record {
           from = b + 1;
-          sized = sized_kept outside'.same_length z;
+          sized = sized_kept i.outside.same_length s.sized;
           outside = outside';
           matching = saw_matching s.matching saw;
           searching =
               saw_searching s.matching s.searching saw s.inside bl new.1 (omega (arith, saw.prev_same b bl)) new.0
-              (λ c lo hi q. gap c lo (omega (arith, place)) (omega arith) q);
+              (λ c lo hi q. all_seen c (omega (arith, few)) (lower c hi) q);
           inside = omega (arith, s.inside);
           source = source';
-          row_is = rw (saw.queue_same head s.inside) s.row_is;
-          first = n;
+          rest_is = λ c h. rw (saw.queue_same head s.inside) (left_then c h (ℕ_discrete c b));
         }
+      where
+        left_then : (c : ℕ) → c < 256 → Dec (c ≡ b) → rest' c ≡ bit w₀ (base + 8 * (tables w).queue head) c - (tables w').seen c
+        left_then c h (yes e) =
+            let l = bit_lt w₀ (base + 8 * (tables w).queue head) b in
+            rw e (omega (arith, taken, saw.seen_here))
+        left_then c h (no ne) = others c ne ∙ s.rest_is c h ∙ ap (λ (x : ℕ). bit w₀ (base + 8 * (tables w).queue head) c - x) (sym (i.saw.seen_other c h ne))
 
     -- with none
     pub showing_found : (tables w').prev b ≡ 0 → ShownIn w₀ w' base m head b end
@@ -123,7 +153,5 @@ module _ {w₀ w : List ℕ} {base m head row end : ℕ} {next : Option ℕ} (s 
           source = source';
           item_le = omega arith;
           done = λ e. absurd (omega arith);
-          found =
-              λ l.
-              found s.matching s.searching saw s.inside bl new.1 (omega (arith, saw.prev_same b bl)) new.0;
+          found = λ l. found s.matching s.searching saw s.inside bl new.1 (omega (arith, saw.prev_same b bl)) new.0;
         }

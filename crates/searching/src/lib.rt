@@ -73,18 +73,21 @@ fn show(w: &mut [u32], base: usize, m: usize, head: usize, tail: usize) -> Contr
     ensures { ShownAs w.old w.new base m head result }
 {
     let row = base + 8 * w[QUEUE + head] as usize;
-    // By place: each turn changes the words that the next one reads, so no iterator can hold them.
+    // Taken at once: a bit that `see` sets is not asked for again, and each turn would wait for the word that the one before it stored.
+    let new = bits::row_without(w, row, &bits::row_at(w, SEEN));
+    if !bits::any(&new) {
+        return ControlFlow::Continue(tail);
+    }
     let mut end = tail;
-    let mut next = bits::next_new(w, row, SEEN, 0);
-    while let Some(b) = next
-        && b < m
-    {
+    for b in bits::bits_of(&new, 0) {
+        if m <= b {
+            break;
+        }
         see(w, head, b, end);
         if previous_of(w, b).is_none() {
             return ControlFlow::Break(b);
         }
         end += 1;
-        next = bits::next_new(w, row, SEEN, b + 1);
     }
     ControlFlow::Continue(end)
 }

@@ -1,4 +1,4 @@
--- `writing::Chains::hop` meets its contract. The invariant: no link before the iterator's place leads to `b`.
+-- `writing::Chains::hop` meets its contract. The invariant: no link that the iterator has given leads to `b`.
 -- Assumes nothing.
 use Rattle.writing.proofs.Hops.{Hopping}
 use Rattle.writing.proofs.Chains.hop.Given as goal

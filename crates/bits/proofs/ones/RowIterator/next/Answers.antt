@@ -1,32 +1,22 @@
--- `next` of the bits of a row meets its contract: the first bit from its place on.
--- Assumes nothing.
-use mathlib.Core.Path.{◌≡◌, refl, sym}
+use mathlib.Core.Path.{◌≡◌, refl, ap}
 use Prim.Native.Nat.{◌+◌}
-use native.Mathlib.Omega.{arith}
 use lib.ListN.{get_or}
-use Rattle.std.proofs.Common.{rules}
-use Rattle.bits.specs.Bits.{bit, FirstFrom, place_or_end}
-use Rattle.bits.proofs.Rows.{bit_digit, bit_given}
+use native.Mathlib.Omega.{arith}
+use Rattle.bits.proofs.Left.{going_on, going_end, bit_given}
 use Rattle.bits.proofs.ones.RowIterator.next.Goals as goal
-use Rattle.bits.proofs.ones.RowIterator.next.Goals.{After-first_from}
 
-found : (c : After-first_from) → let s = c.args.self.now in FirstFrom (bit s.words.now s.row) s.from (place_or_end c.first_from.result)
-found c =
-    let s = c.args.self.now in
-    c.first_from.ensures.first (bit s.words.now s.row)
-    (λ i x h p j hj. let e : x ≡ get_or s.words.now (s.row + i) 0 = search rules in rw e (sym (bit_digit s.words.now s.row i j hj)))
+pub returns-in-Some-clause-steps : goal.returns-in-Some-clause-steps
+returns-in-Some-clause-steps c =
+    let (_, _, same, going, less) = c.loop-bit.invariant in
+    bit_given going c.in-Some.ensures.steps _ (ap (λ s. s.words.now) same) (ap (λ s. s.row) same) refl refl
 
-pub returns-in_err-bit-clause-steps : goal.returns-in_err-bit-clause-steps
-returns-in_err-bit-clause-steps c =
-    let f = rw c.in_err-bit.was at (found (goal.at.returns-in_err-bit-clause-steps c).After-first_from) in
-    rw c.from_residual.ensures (f.passed, refl)
+pub returns-then-place-eq8-clause-steps : goal.returns-then-place-eq8-clause-steps
+returns-then-place-eq8-clause-steps c =
+    let (_, _, same, going, less) = c.loop-bit.invariant in
+    (going_end going (omega arith) c.in_default.ensures.steps.0, same)
 
-pub returns-clause-steps : goal.returns-clause-steps
-returns-clause-steps c =
-    let f = rw c.in_ok-bit.was at (found (goal.at.returns-clause-steps c).After-first_from) in
-    bit_given c.args.self.now _ c.in_ok-bit.bit f c.in_ok-bit.ensures.below refl refl refl
-
-pub returns-clause-goes : goal.returns-clause-goes
-returns-clause-goes c =
-    let f = rw c.in_ok-bit.was at (found (goal.at.returns-clause-goes c).After-first_from) in
-    record { on = λ e. (tt, tt, omega (arith, f.at_least, c.in_ok-bit.ensures.below)); keeps = tt; rests = λ e. tt }
+pub loop-bit-preserved : goal.loop-bit-preserved
+loop-bit-preserved c =
+    let (_, _, same, going, less) = c.loop-bit.invariant in
+    let e : c.ones_of-ones.result.rest ≡ get_or c.args.self.now.words.now (c.args.self.now.row + (c.loop-bit.place + 1)) 0 = rw c.ones_of-ones.ensures refl in
+    (tt, tt, same, rw e (going_on going (c.loop-bit.place + 1) refl (omega (arith, c.if-place-eq8.false, going.below)) c.in_default.ensures.steps.0), omega (arith, less, c.if-place-eq8.false, going.below))
