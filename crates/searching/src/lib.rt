@@ -73,7 +73,7 @@ fn show(w: &mut [u32], base: usize, m: usize, head: usize, tail: usize) -> Contr
     ensures { ShownAs w.old w.new base m head result }
 {
     let row = base + 8 * w[QUEUE + head] as usize;
-    // Taken at once: a bit that `see` sets is not asked for again, and each turn would wait for the word that the one before it stored.
+    // Taken at once, since a bit that `see` sets is not asked for again: bit by bit, each turn would wait for the word that the one before it stored.
     let new = bits::row_without(w, row, &bits::row_at(w, SEEN));
     if !bits::any(&new) {
         return ControlFlow::Continue(tail);

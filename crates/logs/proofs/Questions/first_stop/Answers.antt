@@ -72,7 +72,9 @@ returns g c =
                   at.invariant.moved,
                 )
             | in_default-via-in-Ok+in_default v ↦
-                let told = from_told _ _ _ _ at.at (at.at - at.others) at.invariant.group (omega (arith, u.if-at-last.false, at.invariant.group.within)) _ answer _ v.in_default.is in
+                let told =
+                from_told _ _ _ _ at.at (at.at - at.others) at.invariant.group (omega (arith, u.if-at-last.false, at.invariant.group.within)) _ answer _
+                v.in_default.is in
                 let other : v.in_default.field-0 ≢ From (number (get_or c.args.self.log.now at.at 0)) = λ e. search rules in
                 absurd (other told)
           ]

@@ -18,5 +18,8 @@ returns-then-place-eq8-clause-steps c =
 pub loop-bit-preserved : goal.loop-bit-preserved
 loop-bit-preserved c =
     let (_, _, same, going, less) = c.loop-bit.invariant in
-    let e : c.ones_of-ones.result.rest ≡ get_or c.args.self.now.words.now (c.args.self.now.row + (c.loop-bit.place + 1)) 0 = rw c.ones_of-ones.ensures refl in
-    (tt, tt, same, rw e (going_on going (c.loop-bit.place + 1) refl (omega (arith, c.if-place-eq8.false, going.below)) c.in_default.ensures.steps.0), omega (arith, less, c.if-place-eq8.false, going.below))
+    let s = c.args.self.now in
+    let next = c.loop-bit.place + 1 in
+    let read : c.ones_of-ones.result.rest ≡ get_or s.words.now (s.row + next) 0 = rw c.ones_of-ones.ensures refl in
+    let on = going_on going next refl (omega (arith, c.if-place-eq8.false, going.below)) c.in_default.ensures.steps.0 in
+    (tt, tt, same, rw read on, omega (arith, less, c.if-place-eq8.false, going.below))
