@@ -4,7 +4,9 @@ use crate::checkers::{self, Shown};
 use crate::counts::Service;
 use crate::lent::Lent;
 use crate::model::{report_on, trimmed_copy_of};
-use crate::reference::{Graph, WORK, copy_need, copy_words, in_order, least, noted, parts, report_need, said, voices};
+use crate::reference::{
+    Graph, WORK, copy_need, copy_words, in_order, joined_past, least, noted, parts, report_need, said, voices,
+};
 use crate::services::{Answer, Door, ReadAnswer, Services, ThreadAnswer};
 use crate::voice_faults::{self, Placed};
 use crate::words::{
@@ -889,7 +891,7 @@ fn altered_trimmed(fault: Fault, log: &[u32], copy: &mut Vec<u32>) {
         Fault::TrimDoors => kept.retain(|link| graph.voices[link.0] > 0 && graph.voices[link.1] > 0),
         Fault::TrimDoorRound => {
             let doors: Vec<bool> = graph.voices.iter().map(|&voices| voices == 0).collect();
-            kept.extend(graph.links.iter().filter(|&&link| !joined_past(&graph, &doors, link)));
+            kept.extend(graph.links.iter().filter(|&&link| !joined_past(&graph, doors.clone(), link)));
         }
         _ => return voice_faults::altered_copy(fault, Service::TrimmedCopy, log, copy),
     }
@@ -899,23 +901,6 @@ fn altered_trimmed(fault: Fault, log: &[u32], copy: &mut Vec<u32>) {
 /// The voices of the episodes of a log that passes.
 fn voices_of(log: &[u32]) -> Vec<usize> {
     voices(episodes(log[0]), &said(log))
-}
-
-/// Whether other links lead from the first episode to the second past those that are marked.
-fn joined_past(graph: &Graph, marked: &[bool], out: Link) -> bool {
-    let (mut seen, mut stack) = (marked.to_vec(), vec![out.0]);
-    while let Some(at) = stack.pop() {
-        for &to in graph.next[at].iter().filter(|&&to| (at, to) != out) {
-            if to == out.1 {
-                return true;
-            }
-            if !seen[to] {
-                seen[to] = true;
-                stack.push(to);
-            }
-        }
-    }
-    false
 }
 
 /// Whether other links lead from the first episode to the second in no more minutes.

@@ -27,11 +27,12 @@ use Rattle.order.specs.Order.{All}
 use Rattle.paths.specs.Graph.{Rising}
 use Rattle.paths.specs.Passing.{passing}
 use Rattle.paths.proofs.Passing.{passing_below, passing_test, test_passing, passing_rising, passing_nodup, passing_equal}
-use Rattle.logs.specs.Words.{kind, voices_word, voices_episode, voices_given}
+use Rattle.logs.specs.Words.{kind, voices_word}
 use Rattle.logs.specs.Log.{most_with_voices, most_voices, heard_from, marks_of, voices_by}
 use Rattle.logs.proofs.Links.{heard_voices}
 use Rattle.logs.proofs.Marks.{marks_nil, marks_voices, voices_unmarked, voices_marked}
 use Rattle.logs.proofs.Voices.{MarksTaken}
+use Rattle.logs.proofs.Words.{voices_kind, voices_episode_lem, voices_given_lem}
 use Rattle.copying.specs.FairCopy.{not_one, voices_words}
 
 -- the episodes below `k` with other voices than one
@@ -45,17 +46,6 @@ marked_with voices v = (v, voices v)
 -- the voices words of some episodes
 abbrev pub words_of : (ℕ → ℕ) → List ℕ → List ℕ
 words_of voices vs = map (λ (v : ℕ). voices_word v (voices v)) vs
-
--- a voices word is made of its two figures, which must fit
-module _ (v c : ℕ) (fits : v < 2 ^ 16) (few : c < 2 ^ 12) where
-  pub voices_kind : kind (voices_word v c) ≡ 9
-  voices_kind = omega arith
-
-  pub voices_episode_lem : voices_episode (voices_word v c) ≡ v
-  voices_episode_lem = omega arith
-
-  pub voices_given_lem : voices_given (voices_word v c) ≡ c
-  voices_given_lem = omega arith
 
 -- other voices than one, as it is tested
 is_other : (voices : ℕ → ℕ) (v : ℕ) → voices v ≢ 1 → not_one voices v ≡ true

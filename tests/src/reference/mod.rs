@@ -16,5 +16,5 @@ pub use furthest::{by_flow as furthest, smallest_cover};
 pub use graph::{Graph, noted, said};
 pub use questions::{MOST_WITH_VOICES, Parts, Reading, Refusal, WORK, bytes, copy_need, in_order, lent, parts, report_need};
 pub use subject::{Passed, Subject};
-pub use trimming::by_search as trimmed;
+pub use trimming::{by_search as trimmed, joined_past};
 pub use voicing::by_words as voices;

@@ -13,7 +13,11 @@ pub fn by_search(graph: &Graph) -> Vec<Link> {
 /// Whether other links lead from the first episode of `out` to its second. The graph has each link once, so `out` is
 /// taken out with all its repeats.
 pub fn joined_without(graph: &Graph, out: Link) -> bool {
-    let mut seen = vec![false; graph.n];
+    joined_past(graph, vec![false; graph.n], out)
+}
+
+/// The same, past the episodes that are `seen`.
+pub fn joined_past(graph: &Graph, mut seen: Vec<bool>, out: Link) -> bool {
     let mut stack = vec![out.0];
     while let Some(at) = stack.pop() {
         for &to in graph.next[at].iter().filter(|&&to| (at, to) != out) {
