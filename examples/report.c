@@ -1,4 +1,4 @@
-/* The six services from C, on a log of 5 episodes with the links 0-1 and 2-3 and other small logs, and their refusals. Prints
+/* The seven services from C, on a log of 5 episodes with the links 0-1 and 2-3 and other small logs, and their refusals. Prints
  * what examples/expected.txt holds; exits with 1 where a refusal has another number than is meant here. */
 #include <inttypes.h>
 #include <stdio.h>
@@ -53,6 +53,13 @@ static const uint32_t voiced[] = {
 };
 
 static const uint32_t loop[] = {0x10000002, 0x20000000, 0x30000001, 0x20000001, 0x30000000, 0xF0000002};
+
+/* One episode, which is a door. */
+static const uint32_t door[] = {0x10000001, ZOHAPY_VOICES_WORD(0, 0), 0xF0000000};
+
+/* The bytes of a log, with room for one more than a log may have, and those of its text. */
+static uint8_t bytes[33257];
+static uint8_t text[ZOHAPY_TEXT_BYTES];
 
 static uint32_t out[ZOHAPY_REPORT_WORDS_WITH_VOICES(5)];
 static uint32_t copied[ZOHAPY_COPY_WORDS_WITH_VOICES(3, 2)];
@@ -138,6 +145,23 @@ static void print_copy(const char *name, copying *call, const uint32_t *log, siz
     print_words(name, copied, copy.value);
 }
 
+/* Prints the text of the first bytes, and checks the number. */
+static void print_text_of(uint32_t meant, size_t count) {
+    zohapy_text_answer answer = zohapy_text(bytes, count, text, sizeof(text), out, WORDS(out), work, WORDS(work));
+    fwrite(text, 1, answer.bytes, stdout);
+    if (answer.number != meant) {
+        fprintf(stderr, "a text with number %" PRIu32 " was meant\n", meant);
+        failed = 1;
+    }
+}
+
+/* The same of a log, from its bytes: four to a word, the lowest first. */
+static void print_text(uint32_t meant, const uint32_t *log, size_t log_words) {
+    for (size_t i = 0; i < 4 * log_words; i++)
+        bytes[i] = (uint8_t)(log[i / 4] >> (8 * (i % 4)));
+    print_text_of(meant, 4 * log_words);
+}
+
 int main(void) {
     print_report(whole, WORDS(whole));
     print_copy("copy", zohapy_fair_copy, whole, WORDS(whole));
@@ -197,5 +221,17 @@ int main(void) {
     /* A report of one thread, and the call for a second one. */
     const uint32_t one[] = {0x40000001, 0x50000000, 0x60000001, 0x70000000, 0xF0000004};
     print_refusal(17, zohapy_thread(one, WORDS(one), 1).number, 0);
-    return failed;
+
+    /* Texts, from bytes. A log that is refused has a text too, and so has one whose bytes are refused. */
+    print_text(0, whole, WORDS(whole));
+    print_text(0, door, WORDS(door));
+    print_text(13, loop, WORDS(loop));
+    print_text(10, refused[WORDS(refused) - 1].words, refused[WORDS(refused) - 1].count);
+    print_text_of(14, sizeof(bytes));
+    print_text_of(15, 7);
+
+    /* A text buffer that is too short gets none, and no byte and no word has changed. */
+    zohapy_text_answer none = zohapy_text(bytes, 8, text, sizeof(text) - 1, out, WORDS(out), work, WORDS(work));
+    print_refusal(11, none.number, none.value);
+    return none.bytes == 0 ? failed : 1;
 }

@@ -1,4 +1,4 @@
-/* The sleeper report: the six services of the proved library, for C. Link build/libzohapy.a.
+/* The sleeper report: the seven services of the proved library, for C. Link build/libzohapy.a.
  *
  * A log is an array of 32-bit words; a word's top 4 bits are its kind and its low 28 bits its number. The number of the head,
  * of kind 1, is the log's version, 0 or 1, in bits 24 to 27 and n, how many episodes there are, in bits 0 to 23. That of a to
@@ -12,7 +12,8 @@
  * has voices words.
  *
  * Every call ends with an answer or one numbered refusal, on any content and length. A pointer must be aligned and not null,
- * also where the length is 0, and no two arrays may share a word. Nothing is allocated, and nothing is kept between calls. */
+ * also where the length is 0, and no two arrays may share a word or a byte. Nothing is allocated, and nothing is kept between
+ * calls. */
 #ifndef ZOHAPY_H
 #define ZOHAPY_H
 
@@ -24,10 +25,13 @@ extern "C" {
 #endif
 
 /* The version of the library. */
-#define ZOHAPY_VERSION "0.7.0"
+#define ZOHAPY_VERSION "0.8.0"
 
-/* The work words that a report or a copy needs. */
+/* The work words that a report, a copy or a text needs. */
 #define ZOHAPY_WORK_WORDS 16384
+
+/* The bytes that the text buffer needs. Every text fits. */
+#define ZOHAPY_TEXT_BYTES 42640
 
 /* The output words that a report on n episodes needs, and a fair or a trimmed copy of a log with t to words, where the log has
  * no voices words. */
@@ -80,6 +84,12 @@ typedef struct {
     size_t length;   /* how many steps it has, where number is 0; else 0 */
 } zohapy_thread_answer;
 
+typedef struct {
+    uint32_t number; /* 0, or the refusal's number, 1 to 15 or 18 to 21 */
+    size_t value;    /* the count of the report's words, where number is 0; else the refusal's place */
+    size_t bytes;    /* how many bytes the text has; 0 only where the text buffer is too short */
+} zohapy_text_answer;
+
 /* Reads a log: questions 1 to 10, and after 2 question 18: whether the version is 0 or 1. Of the head question 3 looks at the
  * episodes alone, and so does question 7 of a to word and of a voices word. Of each voices word between head and first from
  * word it is asked, in this order: 20, whether there are at most 120 episodes; 7; 19, whether its voices are at most 2; 21,
@@ -119,6 +129,18 @@ zohapy_answer zohapy_trimmed_copy(const uint32_t *log, size_t log_words, uint32_
 /* The steps of thread i of a report, counted from 0: report[start] to report[start + length - 1], each a word of kind 7. The
  * words are a whole report if they have its layout: kind 4 with k, 0 to k words of kind 5, k threads, and the end. */
 zohapy_thread_answer zohapy_thread(const uint32_t *report, size_t report_words, size_t i);
+
+/* The printed text of a log, from its bytes: four to a word, the lowest first; they need no alignment. Asked before all else
+ * is whether the text buffer has ZOHAPY_TEXT_BYTES bytes. Where it has fewer, the answer is 11 with value 42640 and 0 bytes,
+ * and no byte and no word of the three buffers changes. Then 14: whether the log has at most 33,256 bytes, the place being
+ * 33256; and 15: whether their count is a multiple of four, the place being the count. 14 and 15 change no word. Otherwise
+ * number and value are those of a report on the words with the same output and work words, which are left as that leaves them.
+ * The text buffer begins with the text, which no zero byte ends, and is unchanged behind it. The text of a report has the
+ * lines episodes, links (the link count), width and apart, and a line thread for each thread; that of a refusal the line
+ * refused N at P, and after 13 the line loop with the episodes of the loop. A line is its name, the figures with one space
+ * before each, and a newline; figures are decimal without leading zeros. */
+zohapy_text_answer zohapy_text(const uint8_t *log, size_t log_bytes, uint8_t *text, size_t text_bytes, uint32_t *out,
+                               size_t out_words, uint32_t *work, size_t work_words);
 
 #ifdef __cplusplus
 }

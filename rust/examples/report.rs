@@ -1,9 +1,9 @@
-//! With the name of a file: the report on the log whose bytes it holds. Without: the six services on a log of 5 episodes with
+//! With the name of a file: the report on the log whose bytes it holds. Without: the seven services on a log of 5 episodes with
 //! the links 0-1 and 2-3 and other small logs, and their refusals; it prints what examples/expected.txt holds.
 
 use std::error::Error;
 
-use zohapy::{Failure, LONGEST_PAUSE, Link, Mark, Outcome, Refusal, Report, TrimOutcome, WORK_WORDS};
+use zohapy::{Failure, LOG_BYTES, LONGEST_PAUSE, Link, Mark, Outcome, Refusal, Report, TEXT_BYTES, TrimOutcome, WORK_WORDS};
 
 const WHOLE: [u32; 6] = [0x1000_0005, 0x2000_0000, 0x3000_0001, 0x2000_0002, 0x3000_0003, 0xF000_0002];
 
@@ -62,6 +62,9 @@ const VOICED: [u32; 9] = [
     0x3000_0003,
     0xF000_0003,
 ];
+
+/// One episode, which is a door.
+const DOOR: [u32; 3] = [0x1000_0001, voices_word(0, 0), 0xF000_0000];
 
 const LOOP: [u32; 6] = [0x1000_0002, 0x2000_0000, 0x3000_0001, 0x2000_0001, 0x3000_0000, 0xF000_0002];
 
@@ -131,6 +134,16 @@ fn main() -> Result<(), Box<dyn Error>> {
         answered => panic!("the log has a loop, not {answered:?}"),
     }
     print_refusal(zohapy::thread(&[0x4000_0001, 0x5000_0000, 0x6000_0001, 0x7000_0000, 0xF000_0004], 1));
+    // Texts, from bytes, on lent buffers. A log that is refused has a text too, and so has one whose bytes are refused.
+    let mut text = vec![0; TEXT_BYTES];
+    for log in [&WHOLE[..], &DOOR, &LOOP, REFUSED[13]] {
+        let count = zohapy::text(&zohapy::bytes_from_words(log), &mut text, &mut out, &mut work)?.bytes;
+        print!("{}", std::str::from_utf8(&text[..count])?);
+    }
+    // The owned form.
+    print!("{}{}", zohapy::printed(&[0; LOG_BYTES + 1]), zohapy::printed(&[0; 7]));
+    // A text buffer that is too short gets none, and no byte and no word has changed.
+    print_refusal(zohapy::text(&[0; 8], &mut text[..TEXT_BYTES - 1], &mut out, &mut work));
     Ok(())
 }
 

@@ -1,4 +1,4 @@
-//! The sleeper report for Rust programs: the six services of the proved library, on lent buffers.
+//! The sleeper report for Rust programs: the seven services of the proved library, on lent buffers.
 //!
 //! A log is a list of 32-bit words; a word's top 4 bits are its kind and its low 28 bits its number. The number of the head holds
 //! the log's version and its count of episodes: [`head_version`] and [`head_episodes`]. That of a to word holds an episode and a
@@ -12,11 +12,13 @@
 //! Each call ends, on any log and any buffers, with an answer or one numbered refusal, and what it leaves in every word of the
 //! buffers is fixed:
 //!
-//! - after a refusal 1 to 12 or 18 to 21 no buffer has changed;
+//! - after a refusal other than 13 no output word and no work word has changed;
 //! - otherwise the output begins with the report, the loop or the copy and is unchanged behind it, and the first [`WORK_WORDS`]
-//!   work words are zero, the others unchanged.
+//!   work words are zero, the others unchanged;
+//! - a text buffer begins with the text, whatever the outcome, and is unchanged behind it; if it is too short no byte has changed.
 //!
 //! [`Report::of`] lends buffers of its own and gives the report as lists of episodes. [`words_from_bytes`] takes a log's bytes.
+//! [`text`] takes a log's bytes too and gives the printed text, with [`printed`] as the owned form.
 //!
 //! ```
 //! use zohapy::Report;
@@ -31,7 +33,7 @@
 
 mod owned;
 
-pub use owned::{Failure, Report};
+pub use owned::{Failure, Report, printed};
 
 /// The most bytes that a log has: those of 120 voices words and 4,096 groups of one to word each, with head and end.
 pub const LOG_BYTES: usize = 33_256;
@@ -48,8 +50,11 @@ pub const MOST_WITH_VOICES: usize = 120;
 /// The most voices of an episode.
 pub const MOST_VOICES: u32 = 2;
 
-/// The work words that a report or a copy needs.
+/// The work words that a report, a copy or a text needs.
 pub const WORK_WORDS: usize = 16_384;
+
+/// The bytes that the text buffer of [`text`] needs. Every text fits.
+pub const TEXT_BYTES: usize = 42_640;
 
 /// The output words that a report on `episodes` episodes needs where the log has no voices words. That of 200 episodes, 10,502, is
 /// enough for every log.
@@ -193,8 +198,8 @@ pub struct Refusal {
     /// word between head and first from word: whether there are at most [`MOST_WITH_VOICES`] episodes, whether its episode is below
     /// n, whether its voices are at most [`MOST_VOICES`], and whether no voices word before it is of its episode.
     pub number: u32,
-    /// The place, in words from 0. For 11 and 12 it is the words needed, for 13 the loop's length, for 14 [`LOG_BYTES`], and
-    /// for 15 the byte count.
+    /// The place, in words from 0. For 11 and 12 it is the words needed, or [`TEXT_BYTES`] where a text buffer is too short, for 13
+    /// the loop's length, for 14 [`LOG_BYTES`], and for 15 the byte count.
     pub place: usize,
 }
 
@@ -216,15 +221,24 @@ pub struct Reading {
     pub links: usize,
 }
 
-/// The outcome of a report call.
+/// The outcome of a report call, and of a text call on the bytes of a log.
 #[derive(Clone, Copy, Debug, PartialEq, Eq)]
 pub enum Outcome {
     /// The output begins with a report of this many words.
     Report(usize),
     /// Refusal 13: the output begins with a loop of this many episodes, one word more.
     Loop(usize),
-    /// A refusal 1 to 12 or 18 to 21.
+    /// A refusal 1 to 12 or 18 to 21; of a text call 14 or 15 too.
     Refused(Refusal),
+}
+
+/// What a text call gives: its outcome, and the length of the text.
+#[derive(Clone, Copy, Debug, PartialEq, Eq)]
+pub struct Printed {
+    /// The outcome of a report call on the words of the log, or refusal 14 or 15 of its bytes.
+    pub outcome: Outcome,
+    /// How many bytes the text has, with which the text buffer begins.
+    pub bytes: usize,
 }
 
 /// The outcome of a trimmed copy call.
@@ -260,6 +274,13 @@ mod library {
         pub length: usize,
     }
 
+    #[repr(C)]
+    pub struct TextAnswer {
+        pub number: u32,
+        pub value: usize,
+        pub bytes: usize,
+    }
+
     /// A service that writes to a lent output: the log, the output and the work words, each with its length.
     pub type Lending = unsafe extern "C" fn(*const u32, usize, *mut u32, usize, *mut u32, usize) -> Answer;
 
@@ -292,6 +313,16 @@ mod library {
             work_words: usize,
         ) -> Answer;
         pub fn zohapy_thread(report: *const u32, report_words: usize, i: usize) -> ThreadAnswer;
+        pub fn zohapy_text(
+            log: *const u8,
+            log_bytes: usize,
+            text: *mut u8,
+            text_bytes: usize,
+            out: *mut u32,
+            out_words: usize,
+            work: *mut u32,
+            work_words: usize,
+        ) -> TextAnswer;
     }
 }
 
@@ -378,10 +409,15 @@ fn call(service: library::Lending, log: &[u32], out: &mut [u32], work: &mut [u32
 /// [`WORK_WORDS`] work words and [`report_words`] output words, or [`report_words_with_voices`] where the log has a voices word.
 pub fn report(log: &[u32], out: &mut [u32], work: &mut [u32]) -> Outcome {
     let answer = call(library::zohapy_report, log, out, work);
-    match answer.number {
-        0 => Outcome::Report(answer.value),
-        13 => Outcome::Loop(answer.value),
-        number => Outcome::Refused(Refusal { number, place: answer.value }),
+    outcome(answer.number, answer.value)
+}
+
+/// The outcome that has this number and this value.
+fn outcome(number: u32, value: usize) -> Outcome {
+    match number {
+        0 => Outcome::Report(value),
+        13 => Outcome::Loop(value),
+        number => Outcome::Refused(Refusal { number, place: value }),
     }
 }
 
@@ -415,6 +451,46 @@ pub fn thread(report: &[u32], i: usize) -> Result<&[u32], Refusal> {
     match answer.number {
         0 => Ok(&report[answer.start..answer.start + answer.length]),
         number => Err(Refusal { number, place: 0 }),
+    }
+}
+
+/// The printed text of a log, from its bytes, four to a word, lowest byte first; [`Report`] and [`Failure`] are displayed as the same
+/// text. The text buffer begins with the text and is unchanged behind it. A refused log has a text too, and so have refusals 11 and
+/// 12 of output and work words. More than [`LOG_BYTES`] bytes are refused by 14, then any count that is not a multiple of four by 15;
+/// both change no word. Otherwise the outcome is that of [`report`] on the words with the same output and work words, which are left
+/// as that leaves them.
+///
+/// Lend [`TEXT_BYTES`] bytes for the text, and output and work words as for a report. The only error is that the text buffer has
+/// fewer: then it is refusal 11 with [`TEXT_BYTES`] as its place, whatever the log, and no byte and no word has changed.
+///
+/// ```
+/// use zohapy::{Outcome, Printed, TEXT_BYTES, WORK_WORDS, report_words};
+///
+/// let log = [0x1000_0005, 0x2000_0000, 0x3000_0001, 0x2000_0002, 0x3000_0003, 0xF000_0002]; // 5 episodes, links 0-1 and 2-3
+/// let log = zohapy::bytes_from_words(&log);
+/// let (mut text, mut out, mut work) = (vec![0; TEXT_BYTES], vec![0; report_words(5)], vec![0; WORK_WORDS]);
+/// let printed = zohapy::text(&log, &mut text, &mut out, &mut work)?;
+/// assert_eq!(printed, Printed { outcome: Outcome::Report(13), bytes: 70 });
+/// assert_eq!(&text[..printed.bytes], b"episodes 5\nlinks 2\nwidth 3\napart 1 3 4\nthread 0 1\nthread 2 3\nthread 4\n");
+/// # Ok::<(), zohapy::Refusal>(())
+/// ```
+pub fn text(log: &[u8], text: &mut [u8], out: &mut [u32], work: &mut [u32]) -> Result<Printed, Refusal> {
+    // SAFETY: the pointers and the lengths are those of four slices, no two of which share a byte; the call stays within them.
+    let answer = unsafe {
+        library::zohapy_text(
+            log.as_ptr(),
+            log.len(),
+            text.as_mut_ptr(),
+            text.len(),
+            out.as_mut_ptr(),
+            out.len(),
+            work.as_mut_ptr(),
+            work.len(),
+        )
+    };
+    match answer.bytes {
+        0 => Err(Refusal { number: answer.number, place: answer.value }),
+        bytes => Ok(Printed { outcome: outcome(answer.number, answer.value), bytes }),
     }
 }
 

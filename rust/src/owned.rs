@@ -1,9 +1,10 @@
-//! A report as lists of episodes.
+//! A report as lists of episodes, and a text of its own.
 
 use std::fmt;
 
 use crate::{
-    Outcome, Refusal, WORK_WORDS, kind, link_count, marks, number, read, report, report_words, report_words_with_voices, thread,
+    Outcome, Refusal, TEXT_BYTES, WORK_WORDS, kind, link_count, marks, number, read, report, report_words,
+    report_words_with_voices, text, thread,
 };
 
 /// The report on a log. It is displayed as the lines that the program prints.
@@ -87,6 +88,20 @@ impl fmt::Display for Failure {
 }
 
 impl std::error::Error for Failure {}
+
+/// The printed text of a log, from its bytes. The buffers have what every log needs, so refusals 11 and 12 do not occur.
+///
+/// ```
+/// assert_eq!(zohapy::printed(&[0x01, 0, 0, 0x10, 0, 0, 0, 0xF0]), "episodes 1\nlinks 0\nwidth 1\napart 0\nthread 0\n");
+/// assert_eq!(zohapy::printed(&[]), "refused 1 at 0\n");
+/// ```
+pub fn printed(log: &[u8]) -> String {
+    let mut bytes = vec![0; TEXT_BYTES];
+    let (mut out, mut work) = (vec![0; report_words(200)], vec![0; WORK_WORDS]);
+    let printed = text(log, &mut bytes, &mut out, &mut work).expect("the text buffer is long enough");
+    bytes.truncate(printed.bytes);
+    String::from_utf8(bytes).expect("a text has letters, figures, spaces and newlines")
+}
 
 /// The numbers of words.
 fn numbers(words: &[u32]) -> Vec<u32> {

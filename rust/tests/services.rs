@@ -1,5 +1,5 @@
-//! The six services on lent buffers: the small logs worked through, the refusals of logs without voices words, and what is left in the
-//! buffers.
+//! The services that take words, on lent buffers: the small logs worked through, the refusals of logs without voices words, and what
+//! is left in the buffers.
 
 mod common;
 

@@ -1,12 +1,12 @@
 //! The services beside those of an older build: both make each call, and every word that they give and leave is compared.
 
 use crate::counts::{Service, grouped, row};
-use crate::lent::{Lent, WATCHED};
+use crate::lent::{Lent, Unit, WATCHED};
 use crate::model;
 use crate::object::Object;
-use crate::reference::parts;
-use crate::services::header::{self, Counting, Lending, Reading, Threading};
-use crate::services::{Answer, Compared, Door, ReadAnswer, Services, ThreadAnswer, lending};
+use crate::reference::{bytes, parts};
+use crate::services::header::{self, Counting, Lending, Reading, Texting, Threading};
+use crate::services::{Answer, Compared, Door, ReadAnswer, Services, TextAnswer, ThreadAnswer, lending, texting};
 use crate::words::{END, HEAD, VOICES, head_word, kind, version, voices_word, word};
 use std::collections::HashSet;
 use std::fmt::Debug;
@@ -22,6 +22,8 @@ pub struct Older {
     fair_copy: Lending,
     trimmed_copy: Lending,
     thread: Threading,
+    /// None in builds of versions that had no text.
+    text: Option<Texting>,
     /// Whether heads have a version there.
     versions: bool,
     /// Whether logs have voices words there.
@@ -48,7 +50,7 @@ impl Older {
     /// Those of the shared object at `path`.
     pub fn open(path: &str) -> Result<Older, String> {
         let object = Object::open(path)?;
-        // SAFETY: these are the types that the header gives the six functions.
+        // SAFETY: these are the types that the header gives the seven functions.
         unsafe {
             let read = object.function(c"zohapy_read")?;
             Ok(Older {
@@ -58,6 +60,7 @@ impl Older {
                 fair_copy: object.function(c"zohapy_fair_copy")?,
                 trimmed_copy: object.function(c"zohapy_trimmed_copy")?,
                 thread: object.function(c"zohapy_thread")?,
+                text: object.function(c"zohapy_text").ok(),
                 versions: has_versions(read),
                 voices: has_voices(read),
             })
@@ -73,6 +76,7 @@ impl Older {
             fair_copy: header::zohapy_fair_copy,
             trimmed_copy: header::zohapy_trimmed_copy,
             thread: header::zohapy_thread,
+            text: Some(header::zohapy_text),
             versions: has_versions(header::zohapy_read),
             voices: has_voices(header::zohapy_read),
         }
@@ -87,6 +91,7 @@ impl Older {
             fair_copy: model::header::fair_copy,
             trimmed_copy: model::header::trimmed_copy,
             thread: model::header::thread,
+            text: Some(model::header::text),
             versions: true,
             voices: true,
         }
@@ -95,6 +100,11 @@ impl Older {
     /// Whether the build has the link count. Where it has none, these calls are not compared.
     pub fn counts_links(&self) -> bool {
         self.links.is_some()
+    }
+
+    /// Whether the build has the text. Where it has none, these calls are not compared.
+    pub fn prints(&self) -> bool {
+        self.text.is_some()
     }
 
     /// Whether the build has versions. Where it has none, calls on logs of another version than 0 are not compared.
@@ -115,23 +125,28 @@ impl Older {
         refused || ((self.versions || version(log[0]) == 0) && (self.voices || log.len() == 2 || kind(log[1]) != VOICES))
     }
 
+    /// The build's text service, where it has one to which the bytes mean the same.
+    fn texting(&self, log: &[u8]) -> Option<Texting> {
+        self.text.filter(|_| bytes(log).map_or(true, |words| self.reads_as_now(&words)))
+    }
+
     /// Whether the words are a report to the build where they are one now.
     fn takes_report(&self, words: &[u32]) -> bool {
         self.voices || parts(words).map_or(true, |parts| parts.apart == parts.count())
     }
 }
 
-/// A lent buffer as it was before the call, with the watched words around it: for the older build.
+/// A lent buffer as it was before the call, with the watched words or bytes around it: for the older build.
 #[derive(Default)]
-struct Kept(Vec<u32>);
+struct Kept<T = u32>(Vec<T>);
 
-impl Kept {
-    fn keep(&mut self, buffer: &Lent) {
+impl<T: Unit> Kept<T> {
+    fn keep(&mut self, buffer: &Lent<T>) {
         self.0.clear();
         self.0.extend_from_slice(buffer.with_outside());
     }
 
-    fn lent(&mut self) -> &mut [u32] {
+    fn lent(&mut self) -> &mut [T] {
         let end = self.0.len() - WATCHED;
         &mut self.0[WATCHED..end]
     }
@@ -144,6 +159,8 @@ pub struct Beside<S> {
     log: Kept,
     out: Kept,
     work: Kept,
+    bytes: Kept<u8>,
+    text: Kept<u8>,
     compared: Compared,
 }
 
@@ -153,7 +170,8 @@ type Newer<S> = fn(&mut S, Door, &mut Lent, &mut Lent, &mut Lent) -> Answer;
 impl<S: Services> Beside<S> {
     pub fn new(newer: S, older: Older) -> Beside<S> {
         let (log, out, work) = (Kept::default(), Kept::default(), Kept::default());
-        Beside { newer, older, log, out, work, compared: Compared::Not }
+        let (bytes, text) = (Kept::default(), Kept::default());
+        Beside { newer, older, log, out, work, bytes, text, compared: Compared::Not }
     }
 
     fn lending(
@@ -236,6 +254,25 @@ impl<S: Services> Services for Beside<S> {
         new
     }
 
+    fn text(&mut self, door: Door, log: &mut Lent<u8>, text: &mut Lent<u8>, out: &mut Lent, work: &mut Lent) -> TextAnswer {
+        let older = self.older.texting(log.lent());
+        self.bytes.keep(log);
+        self.text.keep(text);
+        self.out.keep(out);
+        self.work.keep(work);
+        let new = self.newer.text(door, log, text, out, work);
+        self.compared = match older {
+            Some(older) => {
+                let old = texting(older, self.bytes.lent(), self.text.lent(), self.out.lent(), self.work.lent());
+                let byte = differing(&[("log", &*log, &self.bytes), ("text buffer", &*text, &self.text)]);
+                let word = differing(&[("output", &*out, &self.out), ("work buffer", &*work, &self.work)]);
+                told(new, old, byte.or(word))
+            }
+            None => Compared::Not,
+        };
+        new
+    }
+
     fn compared(&mut self) -> Compared {
         std::mem::take(&mut self.compared)
     }
@@ -243,7 +280,16 @@ impl<S: Services> Services for Beside<S> {
 
 /// Compares the answers, and each buffer of the newer call with that of the older.
 fn compare<A: Debug + PartialEq>(new: A, old: A, buffers: &[(&str, &Lent, &Kept)]) -> Compared {
-    let word = buffers.iter().find_map(|(name, new, old)| first_difference(name, new.with_outside(), &old.0));
+    told(new, old, differing(buffers))
+}
+
+/// The first difference in buffers of one kind.
+fn differing<T: Unit>(buffers: &[(&str, &Lent<T>, &Kept<T>)]) -> Option<String> {
+    buffers.iter().find_map(|(name, new, old)| first_difference(name, new.with_outside(), &old.0))
+}
+
+/// What is told of two answers, and of buffers that differ or not.
+fn told<A: Debug + PartialEq>(new: A, old: A, word: Option<String>) -> Compared {
     if new == old && word.is_none() {
         return Compared::Same;
     }
@@ -251,21 +297,22 @@ fn compare<A: Debug + PartialEq>(new: A, old: A, buffers: &[(&str, &Lent, &Kept)
     Compared::Other(format!("the answer is {new:?}, that of the older build {old:?}; {word}"))
 }
 
-/// The first word that differs. Both slices begin and end with watched words.
-fn first_difference(name: &str, new: &[u32], old: &[u32]) -> Option<String> {
+/// The first word or byte that differs. Both slices begin and end with watched ones.
+fn first_difference<T: Unit>(name: &str, new: &[T], old: &[T]) -> Option<String> {
     if new == old {
         return None;
     }
     let place = new.iter().zip(old).position(|(new, old)| new != old)?;
     let end = new.len() - WATCHED;
     let word = if place < WATCHED {
-        format!("word {} in front of the {name}", WATCHED - place)
+        format!("{} {} in front of the {name}", T::NAME, WATCHED - place)
     } else if place < end {
-        format!("word {} of the {name}", place - WATCHED)
+        format!("{} {} of the {name}", T::NAME, place - WATCHED)
     } else {
-        format!("word {} behind the {name}", place - end + 1)
+        format!("{} {} behind the {name}", T::NAME, place - end + 1)
     };
-    Some(format!("{word} is {:08X}, that of the older build {:08X}", new[place], old[place]))
+    let digits = 2 * size_of::<T>();
+    Some(format!("{word} is {:0digits$X}, that of the older build {:0digits$X}", new[place], old[place]))
 }
 
 /// What came of a call: an answer, a loop, or another refusal.
@@ -284,7 +331,7 @@ pub struct Tally {
 }
 
 impl Tally {
-    /// A call on these words, a log's or a report's. A report's are not counted with the logs.
+    /// A call on these words, a log's or a report's, or those of bytes. Only a log's are counted with the logs.
     pub fn call(&mut self, service: Service, number: u32, words: &[u32], round: u64) {
         let outcome = match number {
             0 => 0,
@@ -292,7 +339,7 @@ impl Tally {
             _ => 2,
         };
         self.calls[service as usize][outcome] += 1;
-        if service != Service::Thread {
+        if !matches!(service, Service::Thread | Service::Text) {
             self.log(words, round);
         }
     }
@@ -390,7 +437,7 @@ mod tests {
 
     #[test]
     fn both_values_are_told() {
-        let what = first_difference("log", &[1; 40], &[[1; 20], [2; 20]].concat()).expect("they differ");
+        let what = first_difference("log", &[1u32; 40], &[[1; 20], [2; 20]].concat()).expect("they differ");
         assert_eq!(what, "word 4 of the log is 00000001, that of the older build 00000002");
     }
 
@@ -406,6 +453,43 @@ mod tests {
             assert_eq!(matches!(beside.compared(), Compared::Same), compared);
             beside.read(Door::C, &mut lent);
             assert!(matches!(beside.compared(), Compared::Same));
+        }
+    }
+
+    #[test]
+    fn each_byte_is_compared() {
+        let what = first_difference("text buffer", &[1u8; 40], &[[1; 20], [2; 20]].concat()).expect("they differ");
+        assert_eq!(what, "byte 4 of the text buffer is 01, that of the older build 02");
+        let (mut lent, filling, random) = (Lent::new(), Filling::of_bytes(), &mut Random::new(1));
+        lent.fill(10, &filling, random);
+        let differs = |place: Option<usize>| {
+            let mut kept = Kept::default();
+            kept.keep(&lent);
+            if let Some(place) = place {
+                kept.0[place] ^= 1;
+            }
+            differing(&[("log", &lent, &kept)]).is_some()
+        };
+        assert!(!differs(None) && (0..42).all(|place| differs(Some(place))));
+    }
+
+    #[test]
+    fn a_build_without_the_text_is_taken() {
+        let (without, older) = (Older { text: None, ..Older::model() }, Older { versions: false, ..Older::model() });
+        assert!(Older::model().prints() && !without.prints());
+        let (zero, one, cut) = ([0, 0, 0, 0x10, 0, 0, 0, 0xF0], [0, 0, 0, 0x11, 0, 0, 0, 0xF0], [0, 0, 0, 0x11, 0, 0, 0]);
+        let logs: [(&[u8], bool); 3] = [(&zero, true), (&one, false), (&cut, true)];
+        for (log, compared) in logs {
+            for (older, compared) in [(Older::model(), true), (without, false), (older, compared)] {
+                let (mut beside, random) = (Beside::new(Model, older), &mut Random::new(1));
+                let (mut bytes, mut text, mut out, mut work) = (Lent::new(), Lent::new(), Lent::new(), Lent::new());
+                bytes.set(log, &Filling::of_bytes(), random);
+                text.fill(42_640, &Filling::of_bytes(), random);
+                out.fill(2, &Filling::new(), random);
+                work.fill(16_384, &Filling::new(), random);
+                beside.text(Door::C, &mut bytes, &mut text, &mut out, &mut work);
+                assert_eq!(matches!(beside.compared(), Compared::Same), compared);
+            }
         }
     }
 

@@ -3,19 +3,27 @@
 
 use crate::checkers::{self, Shown};
 use crate::checks::{Check, Checked, Disagreement, Found};
-use crate::counts::{Asked, Counts, OutLength, Service, Shape, WorkLength};
-use crate::lent::{Filling, LONGEST, Lent};
+use crate::counts::{Asked, Counts, OutLength, Property, Service, Shape, TextLength, Told, WorkLength};
+use crate::lent::{Filling, LONGEST, LONGEST_BYTES, Lent, Unit};
 use crate::random::Random;
-use crate::reference::{Graph, Parts, Passed, Reading, Refusal, Subject, WORK, copy_need, lent, report_need};
-use crate::services::{Answer, Compared, Door, ReadAnswer, Services, ThreadAnswer};
+use crate::reference::{Graph, Input, Parts, Passed, Reading, Refusal, Subject, TEXT, WORK};
+use crate::reference::{copy_need, lent, loop_text, refusal_text, report_need, text_lent};
+use crate::services::{Answer, Compared, Door, ReadAnswer, Services, TextAnswer, ThreadAnswer};
 
 pub struct Caller<S> {
     services: S,
     pub counts: Counts,
     filling: Filling,
     log: Lent,
+    /// The bytes behind the words that came in, where bytes did.
+    rest: Vec<u8>,
     out: Lent,
     work: Lent,
+    /// The buffers of a report call that is made beside a text call.
+    again: [Lent; 2],
+    byte_filling: Filling<u8>,
+    bytes: Lent<u8>,
+    text: Lent<u8>,
     /// The shape of the log that calls are made on; none for words that are no log.
     pub shape: Option<Shape>,
     /// Answers are not compared with the reference: only properties across calls can fail then.
@@ -43,6 +51,14 @@ pub enum Trimmed {
     Copy(Vec<u32>),
 }
 
+/// What a text call gave: number, value, and the text, which is empty where the text buffer is too short.
+#[derive(Debug, PartialEq, Eq)]
+pub struct Printed {
+    pub number: u32,
+    pub value: usize,
+    pub text: String,
+}
+
 /// Lengths of the two buffers that a call writes to.
 #[derive(Clone, Copy)]
 pub struct Lengths {
@@ -50,12 +66,32 @@ pub struct Lengths {
     pub work: usize,
 }
 
+/// Lengths of the text buffer and of the two others.
+#[derive(Clone, Copy)]
+pub struct TextLengths {
+    pub text: usize,
+    pub others: Lengths,
+}
+
 static WORK_ZERO: [u32; WORK] = [0; WORK];
 
 impl<S: Services> Caller<S> {
     pub fn new(services: S) -> Caller<S> {
-        let (log, out, work) = (Lent::new(), Lent::new(), Lent::new());
-        Caller { services, counts: Counts::new(), filling: Filling::new(), log, out, work, shape: None, bare: false }
+        Caller {
+            services,
+            counts: Counts::new(),
+            filling: Filling::new(),
+            log: Lent::new(),
+            rest: Vec::new(),
+            out: Lent::new(),
+            work: Lent::new(),
+            again: [Lent::new(), Lent::new()],
+            byte_filling: Filling::of_bytes(),
+            bytes: Lent::new(),
+            text: Lent::new(),
+            shape: None,
+            bare: false,
+        }
     }
 
     /// Lengths around what is needed; `need` is a guess where the log is refused anyway.
@@ -94,14 +130,33 @@ impl<S: Services> Caller<S> {
         Lengths { out, work }
     }
 
+    /// The same with lengths of a text buffer around what every text fits.
+    pub fn text_lengths(&mut self, need: usize, random: &mut Random) -> TextLengths {
+        let text = match random.below(32) {
+            0 => 0,
+            1 => random.between(1, TEXT - 2),
+            2 | 3 => TEXT - 1,
+            4..=6 => TEXT + 1,
+            7..=12 => random.between(TEXT + 2, LONGEST_BYTES),
+            _ => TEXT,
+        };
+        TextLengths { text, others: self.lengths(need, random) }
+    }
+
     fn door(&mut self, random: &mut Random) -> Door {
         let door = if random.chance(1, 4) { Door::C } else { Door::Rust };
         self.counts.interface(door == Door::C);
         door
     }
 
+    /// Words come in.
+    fn come_in(&mut self, words: &[u32], random: &mut Random) {
+        self.log.set(words, &self.filling, random);
+        self.rest.clear();
+    }
+
     fn lend(&mut self, subject: &Subject, lengths: Lengths, random: &mut Random) {
-        self.log.set(&subject.words, &self.filling, random);
+        self.come_in(&subject.words, random);
         self.out.fill(lengths.out, &self.filling, random);
         self.work.fill(lengths.work, &self.filling, random);
     }
@@ -143,7 +198,7 @@ impl<S: Services> Caller<S> {
 
     /// The words that came in, and those around them.
     fn ask_words_kept(&self, found: &mut Found) {
-        found.ask(Check::LogKept, self.log.lent() == self.log.before(), || first_changed("input", &self.log, 0));
+        found.ask(Check::LogKept, self.log.kept(), || first_changed("input", &self.log, 0));
         found.ask(Check::Outside, self.log.outside_kept(), || "a word outside the input has changed".into());
     }
 
@@ -155,11 +210,11 @@ impl<S: Services> Caller<S> {
         }
     }
 
-    /// After a refusal 1 to 12 or 18 to 21: no buffer has changed.
+    /// After a refusal other than 13: neither output nor work buffer has changed.
     fn ask_refused(&self, answer: Answer, refusal: Refusal, found: &mut Found) {
         ask_refusal(answer.number, answer.value, refusal, found);
-        found.ask(Check::OutKept, self.out.lent() == self.out.before(), || first_changed("output", &self.out, 0));
-        found.ask(Check::WorkKept, self.work.lent() == self.work.before(), || first_changed("work", &self.work, 0));
+        found.ask(Check::OutKept, self.out.kept(), || first_changed("output", &self.out, 0));
+        found.ask(Check::WorkKept, self.work.kept(), || first_changed("work", &self.work, 0));
     }
 
     /// After the other outcomes: the output behind `written`, and the work words.
@@ -179,8 +234,8 @@ impl<S: Services> Caller<S> {
         if found.0.is_empty() {
             return Ok(());
         }
-        let words = self.words().to_vec();
-        Err(Box::new(Disagreement { service, found: found.0, lengths: lengths(), words }))
+        let (words, rest) = (self.words().to_vec(), self.rest());
+        Err(Box::new(Disagreement { service, found: found.0, lengths: lengths(), words, rest }))
     }
 
     /// The words that came in with the last call.
@@ -188,8 +243,13 @@ impl<S: Services> Caller<S> {
         self.log.before()
     }
 
+    /// The bytes that came in behind them.
+    pub fn rest(&self) -> Vec<u8> {
+        self.rest.clone()
+    }
+
     pub fn read(&mut self, subject: &Subject, random: &mut Random) -> Checked<ReadAnswer> {
-        self.log.set(&subject.words, &self.filling, random);
+        self.come_in(&subject.words, random);
         let door = self.door(random);
         let answer = self.services.read(door, &mut self.log);
         self.count(Service::Read, answer.number, subject);
@@ -225,7 +285,7 @@ impl<S: Services> Caller<S> {
     }
 
     fn links_by(&mut self, door: Door, subject: &Subject, random: &mut Random) -> Checked<Counted> {
-        self.log.set(&subject.words, &self.filling, random);
+        self.come_in(&subject.words, random);
         self.counts.interface(door == Door::C);
         let answer = self.services.links(door, &mut self.log);
         self.count(Service::Links, answer.number, subject);
@@ -385,7 +445,7 @@ impl<S: Services> Caller<S> {
         asked: Asked,
         random: &mut Random,
     ) -> Checked<Vec<Result<Vec<u32>, u32>>> {
-        self.log.set(words, &self.filling, random);
+        self.come_in(words, random);
         let mut stretches = Vec::new();
         for &i in wanted {
             let door = self.door(random);
@@ -411,6 +471,146 @@ impl<S: Services> Caller<S> {
         Ok(stretches)
     }
 
+    /// The text of bytes. In most calls a report call on the words is made too, on buffers that have the same words.
+    pub fn text(&mut self, input: &Input, lengths: TextLengths, random: &mut Random) -> Checked<Printed> {
+        let door = if random.chance(1, 4) { Door::C } else { Door::Rust };
+        self.text_by(door, input, lengths, random)
+    }
+
+    pub fn text_by(&mut self, door: Door, input: &Input, lengths: TextLengths, random: &mut Random) -> Checked<Printed> {
+        let (words, rest) = input.bytes.as_chunks::<4>();
+        self.come_in(&Vec::from_iter(words.iter().map(|four| u32::from_le_bytes(*four))), random);
+        self.rest.extend_from_slice(rest);
+        self.bytes.set(&input.bytes, &self.byte_filling, random);
+        self.text.fill(lengths.text, &self.byte_filling, random);
+        self.out.fill(lengths.others.out, &self.filling, random);
+        self.work.fill(lengths.others.work, &self.filling, random);
+        self.counts.interface(door == Door::C);
+        self.counts.text_lengths(input.bytes.len(), TextLength::met(lengths.text));
+        let answer = self.services.text(door, &mut self.bytes, &mut self.text, &mut self.out, &mut self.work);
+        let asked = text_lent(lengths.text).and(input.log);
+        match asked {
+            Ok(subject) => self.count(Service::Text, answer.number, subject),
+            Err(_) => self.counts.call(Service::Text, answer.number),
+        }
+        let mut found = self.beside(Service::Text, answer.number);
+        if !self.bare {
+            self.ask_text(answer, input, lengths, &mut found);
+        }
+        let TextAnswer { number, value, bytes } = answer;
+        let text = String::from_utf8_lossy(&self.text.lent()[..bytes.min(self.text.len())]).into_owned();
+        self.judge("text", || self.four_lengths(), found)?;
+        if let Ok(subject) = asked
+            && random.chance(3, 4)
+        {
+            self.as_report(answer, door, subject, random)?;
+        }
+        Ok(Printed { number, value, text })
+    }
+
+    /// All buffers after a text call, and the text.
+    fn ask_text(&mut self, answer: TextAnswer, input: &Input, lengths: TextLengths, found: &mut Found) {
+        let TextAnswer { number, value, bytes } = answer;
+        let call = Answer { number, value };
+        self.ask_kept(found);
+        found.ask(Check::LogKept, self.bytes.kept(), || first_changed("input", &self.bytes, 0));
+        for (name, buffer) in [("input", &self.bytes), ("text buffer", &self.text)] {
+            found.ask(Check::Outside, buffer.outside_kept(), || format!("a byte outside the {name} has changed"));
+        }
+        let passed = input.log.and_then(|subject| passed(subject, |read| report_need(read.n, read.voices), lengths.others));
+        if let Err(refusal) = text_lent(lengths.text) {
+            self.counts.told(match (input.log.map(|subject| subject.reading), &passed) {
+                (Err(_), _) => Told::ShortBytes,
+                (Ok(Err(_)), _) => Told::ShortWords,
+                (_, Err(_)) => Told::ShortOthers,
+                _ => Told::Short,
+            });
+            self.ask_refused(call, refusal, found);
+            found.ask(Check::Values, bytes == 0, || format!("{bytes} bytes in a text buffer that is too short"));
+            found.ask(Check::TextKept, self.text.kept(), || first_changed("text", &self.text, 0));
+            return;
+        }
+        // Threads and loop are free: the text has those that stand in the output, which are judged.
+        let (told, due) = match passed {
+            Err(refusal) => {
+                self.ask_refused(call, refusal, found);
+                let short = lengths.others.out < 2 || lengths.others.work < WORK;
+                let told = match refusal.number {
+                    11 => Told::ShortOut,
+                    12 => Told::ShortWork,
+                    14 | 15 if short => Told::BytesShort,
+                    14 | 15 => Told::Bytes,
+                    _ => Told::Refused,
+                };
+                (told, Ok(refusal_text(refusal)))
+            }
+            Ok(passed) => match passed.furthest() {
+                None => {
+                    self.ask_loop(call, &passed.graph, found);
+                    let told = if value == 1 { Told::Own } else { Told::Loop };
+                    (told, checkers::loop_steps(&self.written(value.saturating_add(1))).map(|steps| loop_text(&steps)))
+                }
+                Some(furthest) => {
+                    self.ask_report(call, &passed.graph, furthest, found);
+                    let told = match furthest.len() {
+                        0 => Told::NoApart,
+                        members if members < passed.graph.weight(furthest) => Told::Fewer,
+                        _ => Told::Report,
+                    };
+                    (told, checkers::layout(&self.written(value)).map(|shown| passed.text(furthest, shown.threads)))
+                }
+            },
+        };
+        self.counts.told(told);
+        match due {
+            Ok(due) => self.ask_printed(bytes, &due, found),
+            Err(what) => found.say(Check::Text, || format!("the output has neither threads nor a loop: {what}")),
+        }
+    }
+
+    /// The text buffer: the text, and what is behind it.
+    fn ask_printed(&mut self, bytes: usize, due: &str, found: &mut Found) {
+        self.counts.printed(due);
+        let (text, count) = (self.text.lent(), due.len());
+        found.ask(Check::Values, bytes == count, || format!("{bytes} bytes instead of {count}"));
+        if count > text.len() {
+            return found.say(Check::Text, || format!("a text of {count} bytes in {}", text.len()));
+        }
+        found.ask(Check::Text, text[..count] == *due.as_bytes(), || {
+            let place = due.bytes().zip(text).position(|(due, given)| due != *given).unwrap_or(count);
+            let shown =
+                |text: &[u8]| String::from_utf8_lossy(&text[place.saturating_sub(20)..count.min(place + 20)]).into_owned();
+            format!("byte {place}: {:?} instead of {:?}", shown(text), shown(due.as_bytes()))
+        });
+        let behind = text[count..] == self.text.before()[count..];
+        found.ask(Check::TextBehind, behind, || first_changed("text", &self.text, count));
+    }
+
+    /// A report call on the words that came in, on buffers with the words that the text call had: it gives and leaves the same.
+    fn as_report(&mut self, answer: TextAnswer, door: Door, subject: &Subject, random: &mut Random) -> Checked<()> {
+        let [out, work] = &mut self.again;
+        out.set(self.out.before(), &self.filling, random);
+        work.set(self.work.before(), &self.filling, random);
+        let report = self.services.report(door, &mut self.log, out, work);
+        self.counts.interface(door == Door::C);
+        self.counts.property(Property::AsReport);
+        self.count(Service::Report, report.number, subject);
+        let mut found = self.beside(Service::Report, report.number);
+        let (text, call) = ((answer.number, answer.value), (report.number, report.value));
+        found.ask(Check::AsReport, text == call, || format!("number and value {text:?}, those of a report {call:?}"));
+        for (name, own, other) in [("output", &self.out, &self.again[0]), ("work buffer", &self.work, &self.again[1])] {
+            let place = own.lent().iter().zip(other.lent()).position(|(own, other)| own != other);
+            found.ask(Check::AsReport, place.is_none(), || {
+                format!("word {} of the {name} is another than after a report", place.unwrap_or(0))
+            });
+        }
+        self.judge("text", || self.four_lengths(), found)
+    }
+
+    fn four_lengths(&self) -> String {
+        format!("log {} bytes, text {}, output {}, work {}", self.bytes.len(), self.text.len(), self.out.len(), self.work.len())
+    }
+
     fn three_lengths(&self) -> String {
         format!("log {} words, output {}, work {}", self.log.len(), self.out.len(), self.work.len())
     }
@@ -433,8 +633,8 @@ fn ask_refusal(number: u32, place: usize, refusal: Refusal, found: &mut Found) {
     found.ask(Check::Place, place == refusal.place, || format!("place {place} instead of {}", refusal.place));
 }
 
-fn first_changed(name: &str, buffer: &Lent, from: usize) -> String {
+fn first_changed<T: Unit>(name: &str, buffer: &Lent<T>, from: usize) -> String {
     let pairs = buffer.lent().iter().zip(buffer.before());
     let place = pairs.skip(from).position(|(now, before)| now != before).map_or(from, |place| from + place);
-    format!("{name} word {place} has changed")
+    format!("{name} {} {place} has changed", T::NAME)
 }

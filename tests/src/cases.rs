@@ -1,10 +1,10 @@
 //! Logs that were worked through by hand, with the exact answers; and all logs of at most three episodes.
 
-use crate::calls::{Caller, Counted, Gave, Lengths, Trimmed};
+use crate::calls::{Caller, Counted, Gave, Lengths, Printed, TextLengths, Trimmed};
 use crate::checks::{Check, Checked, Disagreement};
 use crate::counts::Asked;
 use crate::random::Random;
-use crate::reference::{Subject, WORK, parts};
+use crate::reference::{Input, Subject, TEXT, WORK, parts};
 use crate::services::{ReadAnswer, Services};
 use crate::shapes;
 use crate::words::{LOOP, Noted, STEP, TO, hex, in_version, log, older, with_voices, word};
@@ -638,13 +638,78 @@ const THREADS: [(&str, usize, Result<&str, u32>); 27] = [
     ("40000001 90000000 60000001 70000000 F0000004", 0, Err(16)),
 ];
 
+/// Logs with number and value of a text call on buffers that suffice, and their texts. Where threads or loop are free, all that there
+/// can be are listed.
+const TEXTS: [(&str, u32, usize, &[&str]); 24] = [
+    (EMPTY, 0, 2, &["episodes 0\nlinks 0\nwidth 0\napart\n"]),
+    ("10000001 F0000000", 0, 5, &["episodes 1\nlinks 0\nwidth 1\napart 0\nthread 0\n"]),
+    (WHOLE, 0, 13, &["episodes 5\nlinks 2\nwidth 3\napart 1 3 4\nthread 0 1\nthread 2 3\nthread 4\n"]),
+    (TWICE, 0, 6, &["episodes 2\nlinks 1\nwidth 1\napart 1\nthread 0 1\n"]),
+    (BESIDE, 0, 7, &["episodes 3\nlinks 3\nwidth 1\napart 2\nthread 0 1 2\n"]),
+    (
+        SHARED,
+        0,
+        12,
+        &[
+            "episodes 5\nlinks 4\nwidth 2\napart 3 4\nthread 0 2 3\nthread 1 2 4\n",
+            "episodes 5\nlinks 4\nwidth 2\napart 3 4\nthread 1 2 3\nthread 0 2 4\n",
+        ],
+    ),
+    // Along the falling numbers of the episodes.
+    ("10000003 20000002 30000001 20000001 30000000 F0000002", 0, 7, &["episodes 3\nlinks 2\nwidth 1\napart 0\nthread 2 1 0\n"]),
+    // Version 1: links that do not count are no links.
+    (COUNTS_360, 0, 6, &["episodes 2\nlinks 1\nwidth 1\napart 1\nthread 0 1\n"]),
+    (LONG_361, 0, 8, &["episodes 2\nlinks 0\nwidth 2\napart 0 1\nthread 0\nthread 1\n"]),
+    (LONG_CLOSES, 0, 7, &["episodes 3\nlinks 2\nwidth 1\napart 2\nthread 0 1 2\n"]),
+    // Doors: the apart set is empty. A duet has two threads and is one member.
+    ("10000001 90000000 F0000000", 0, 2, &["episodes 1\nlinks 0\nwidth 0\napart\n"]),
+    ("10000002 90000000 90000001 20000000 30000001 F0000001", 0, 2, &["episodes 2\nlinks 1\nwidth 0\napart\n"]),
+    ("10000001 90020000 F0000000", 0, 7, &["episodes 1\nlinks 0\nwidth 2\napart 0\nthread 0\nthread 0\n"]),
+    (DOOR_BETWEEN, 0, 11, &["episodes 3\nlinks 2\nwidth 2\napart 2\nthread 0 1 2\nthread 0 1 2\n"]),
+    (SPOKEN, 0, 10, &["episodes 3\nlinks 0\nwidth 3\napart 1 2\nthread 1\nthread 2\nthread 2\n"]),
+    // Loops.
+    (AROUND, 13, 2, &["refused 13 at 2\nloop 0 1\n"]),
+    (ITSELF, 13, 1, &["refused 13 at 1\nloop 0\n"]),
+    ("100000C8 200000C7 300000C7 F0000001", 13, 1, &["refused 13 at 1\nloop 199\n"]),
+    ("10000004 20000003 30000001 20000001 30000002 20000002 30000003 F0000003", 13, 3, &["refused 13 at 3\nloop 1 2 3\n"]),
+    ("11000003 20000002 31690002 20000001 30000000 20000000 30000001 F0000003", 13, 2, &["refused 13 at 2\nloop 0 1\n"]),
+    // Refusals, of no byte first.
+    ("", 1, 0, &["refused 1 at 0\n"]),
+    ("10000005", 1, 0, &["refused 1 at 0\n"]),
+    ("12000000 F0000000", 18, 0, &["refused 18 at 0\n"]),
+    ("10000003 20000000 30010001 F0010001", 10, 3, &["refused 10 at 3\n"]),
+];
+
+/// How many bytes of 10 in hexadecimal a log has, with number, value and text on buffers that suffice.
+const BYTES: [(usize, u32, usize, &str); 16] = [
+    (0, 1, 0, "refused 1 at 0\n"),
+    (1, 15, 1, "refused 15 at 1\n"),
+    (2, 15, 2, "refused 15 at 2\n"),
+    (3, 15, 3, "refused 15 at 3\n"),
+    (4, 1, 0, "refused 1 at 0\n"),
+    (5, 15, 5, "refused 15 at 5\n"),
+    (8, 3, 0, "refused 3 at 0\n"),
+    (33_253, 15, 33_253, "refused 15 at 33253\n"),
+    (33_254, 15, 33_254, "refused 15 at 33254\n"),
+    (33_255, 15, 33_255, "refused 15 at 33255\n"),
+    (33_256, 3, 0, "refused 3 at 0\n"),
+    (33_257, 14, 33_256, "refused 14 at 33256\n"),
+    (33_258, 14, 33_256, "refused 14 at 33256\n"),
+    (33_259, 14, 33_256, "refused 14 at 33256\n"),
+    (33_260, 14, 33_256, "refused 14 at 33256\n"),
+    (60_000, 14, 33_256, "refused 14 at 33256\n"),
+];
+
 fn differ<T>(service: &'static str, log: &[u32], what: String) -> Checked<T> {
     let found = vec![(Check::Worked, what)];
-    Err(Box::new(Disagreement { service, found, lengths: "those of the case".into(), words: log.to_vec() }))
+    Err(Box::new(Disagreement { service, found, lengths: "those of the case".into(), words: log.to_vec(), rest: Vec::new() }))
 }
 
 /// Buffers that suffice for every log.
 const PLENTY: Lengths = Lengths { out: 10_502, work: WORK };
+
+/// The same with a text buffer.
+const PLENTY_OF_TEXT: TextLengths = TextLengths { text: TEXT, others: PLENTY };
 
 fn refused<S: Services>(caller: &mut Caller<S>, words: Vec<u32>, due: (u32, usize), random: &mut Random) -> Checked<()> {
     let subject = Subject::new(words);
@@ -658,7 +723,30 @@ fn refused<S: Services>(caller: &mut Caller<S>, words: Vec<u32>, due: (u32, usiz
         Err(said) if said == due => {}
         said => return differ("fair_copy", &subject.words, format!("{said:?} instead of {due:?}")),
     }
-    trimmed_as(caller, &subject, PLENTY, &Trimmed::Refused(due.0, due.1), random)
+    trimmed_as(caller, &subject, PLENTY, &Trimmed::Refused(due.0, due.1), random)?;
+    let text = format!("refused {} at {}\n", due.0, due.1);
+    let input = Input::of(&subject);
+    if input.log.is_err() {
+        return printed_as(caller, &input, PLENTY_OF_TEXT, (14, 33_256), &["refused 14 at 33256\n"], random);
+    }
+    printed_as(caller, &input, PLENTY_OF_TEXT, due, &[&text], random)
+}
+
+/// A text call that gives this number, this value and one of these texts.
+fn printed_as<S: Services>(
+    caller: &mut Caller<S>,
+    input: &Input,
+    lengths: TextLengths,
+    (number, value): (u32, usize),
+    texts: &[&str],
+    random: &mut Random,
+) -> Checked<()> {
+    let said = caller.text(input, lengths, random)?;
+    if (said.number, said.value) == (number, value) && texts.contains(&&said.text[..]) {
+        return Ok(());
+    }
+    let Printed { number: other, value: place, text } = said;
+    differ("text", caller.words(), format!("{other}, {place} and {text:?} instead of {number}, {value} and {texts:?}"))
 }
 
 fn report_refused<S: Services>(
@@ -772,6 +860,11 @@ pub fn all<S: Services>(caller: &mut Caller<S>) -> Checked<()> {
             return differ("thread", &given, format!("{said:X?} instead of {due:?} for thread {i}"));
         }
     }
+    for (log, number, value, texts) in TEXTS {
+        let subject = Subject::new(words(log));
+        printed_as(caller, &Input::of(&subject), PLENTY_OF_TEXT, (number, value), texts, random)?;
+    }
+    texts_of_bytes(caller, random)?;
     three_pauses(caller, random)?;
     two_versions(caller, random)?;
     short_buffers(caller, random)?;
@@ -779,6 +872,40 @@ pub fn all<S: Services>(caller: &mut Caller<S>) -> Checked<()> {
     most_voices(caller, random)?;
     at_most_three(caller, random)?;
     at_most_two(caller, random)
+}
+
+/// Refusals 14 and 15, and a text buffer that is too short for bytes of all kinds.
+fn texts_of_bytes<S: Services>(caller: &mut Caller<S>, random: &mut Random) -> Checked<()> {
+    let nothing = Lengths { out: 0, work: 0 };
+    for (count, number, value, text) in BYTES {
+        let subject = Subject::new(vec![0x1010_1010; count / 4]);
+        let input = Input::new(vec![0x10; count], &subject);
+        for others in [PLENTY, nothing] {
+            for text_bytes in [TEXT, TEXT + 1] {
+                let lengths = TextLengths { text: text_bytes, others };
+                printed_as(caller, &input, lengths, (number, value), &[text], random)?;
+            }
+            for text_bytes in [TEXT - 1, 20, 0] {
+                printed_as(caller, &input, TextLengths { text: text_bytes, others }, (11, 42_640), &[""], random)?;
+            }
+        }
+    }
+    for log in [WHOLE, AROUND, EMPTY] {
+        let subject = Subject::new(words(log));
+        for (text, others) in [(TEXT - 1, PLENTY), (100, PLENTY), (0, PLENTY), (TEXT - 1, nothing)] {
+            printed_as(caller, &Input::of(&subject), TextLengths { text, others }, (11, 42_640), &[""], random)?;
+        }
+    }
+    // 200 episodes: without a link, and along one thread, each link given twice.
+    let all: String = (0..200).map(|v| format!(" {v}")).collect();
+    let threads: String = (0..200).map(|v| format!("thread {v}\n")).collect();
+    let alone = format!("episodes 200\nlinks 0\nwidth 200\napart{all}\n{threads}");
+    let along = format!("episodes 200\nlinks 199\nwidth 1\napart 199\nthread{all}\n");
+    let links: Vec<Noted> = (1..200).flat_map(|v| [(v - 1, v, 7), (v - 1, v, 0)]).collect();
+    for (log, words, text) in [(words(ALONE), 602, &alone), (log(200, &links, 4, random), 204, &along)] {
+        printed_as(caller, &Input::of(&Subject::new(log)), PLENTY_OF_TEXT, (0, words), &[text], random)?;
+    }
+    Ok(())
 }
 
 /// 0-1 given three times, with every three of these pauses: the copy has the least of them, and it counts once.
@@ -830,7 +957,7 @@ fn two_versions<S: Services>(caller: &mut Caller<S>, random: &mut Random) -> Che
     Ok(())
 }
 
-/// Questions 11 and 12.
+/// Questions 11 and 12; their texts too.
 fn short_buffers<S: Services>(caller: &mut Caller<S>, random: &mut Random) -> Checked<()> {
     let reports = [
         ("10000001 F0000000", 4, WORK, (11, 5)),
@@ -851,7 +978,10 @@ fn short_buffers<S: Services>(caller: &mut Caller<S>, random: &mut Random) -> Ch
         ("11000078 90010000 F0000000", 7_681, WORK, (11, 7_682)),
     ];
     for (log, out, work, due) in reports {
-        report_refused(caller, &Subject::new(words(log)), Lengths { out, work }, due, random)?;
+        let (subject, others) = (Subject::new(words(log)), Lengths { out, work });
+        report_refused(caller, &subject, others, due, random)?;
+        let text = format!("refused {} at {}\n", due.0, due.1);
+        printed_as(caller, &Input::of(&subject), TextLengths { text: TEXT, others }, due, &[&text], random)?;
     }
     let copies = [
         (WHOLE, 5, WORK, (11, 6)),
@@ -992,6 +1122,12 @@ fn most_voices<S: Services>(caller: &mut Caller<S>, random: &mut Random) -> Chec
     counted_as(caller, &subject, Ok(1), random)?;
     let copy = with_voices(&all(2), log(120, &one[..1], 0, random));
     trimmed_as(caller, &subject, PLENTY, &Trimmed::Copy(copy.clone()), random)?;
+    // These are the most bytes that a log can have.
+    let said = caller.text(&Input::of(&subject), PLENTY_OF_TEXT, random)?;
+    let head = "episodes 120\nlinks 1\nwidth 238\napart 1 2 3 ";
+    if subject.words.len() != 8_314 || (said.number, said.text.starts_with(head)) != (0, true) {
+        return differ("text", &subject.words, format!("{said:?} instead of {head:?} and so on"));
+    }
     if caller.fair_copy(&subject, Lengths { out: 8_314, work: WORK }, random)? != Ok(copy) {
         return differ("fair_copy", &subject.words, "the copy has 120 voices words and one link".into());
     }

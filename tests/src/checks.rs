@@ -27,6 +27,12 @@ pub enum Check {
     FairCopy,
     TrimmedCopy,
     Stretch,
+    Text,
+    TextKept,
+    TextBehind,
+    AsReport,
+    OwnText,
+    SameText,
     SameCopy,
     OtherCopy,
     ReadBack,
@@ -64,17 +70,17 @@ pub enum Check {
 
 use Check::*;
 
-pub const CHECKS: [(Check, &str, &str); 57] = [
+pub const CHECKS: [(Check, &str, &str); 63] = [
     (Number, "number", "the answer's number: 0 or that of the refusal"),
     (Place, "place", "the refusal's place"),
-    (Values, "values", "n and the count of to words; the link count; the copy's count of words"),
-    (LogKept, "log kept", "the words that came in are unchanged"),
-    (OutKept, "output kept", "after refusals 1 to 12 and 18 to 21 the output is unchanged"),
+    (Values, "values", "n and the count of to words; the link count; the copy's count of words; how many bytes the text has"),
+    (LogKept, "log kept", "the words or bytes that came in are unchanged"),
+    (OutKept, "output kept", "after refusals other than 13 the output is unchanged"),
     (OutBehind, "output behind", "behind what is written the output is unchanged"),
-    (WorkKept, "work kept", "after refusals 1 to 12 and 18 to 21 the work buffer is unchanged"),
+    (WorkKept, "work kept", "after refusals other than 13 the work buffer is unchanged"),
     (WorkZero, "work zero", "after the others the first 16,384 work words are zero"),
     (WorkBehind, "work behind", "and the others unchanged"),
-    (Outside, "outside", "the words around the lent ones are unchanged"),
+    (Outside, "outside", "the words and bytes around the lent ones are unchanged"),
     (Layout, "layout", "kinds, lengths, the end's count and the answer's count of words"),
     (Width, "width", "kind 4 holds the width"),
     (EqualSizes, "equal sizes", "the members have as many voices as there are threads, and as kind 4 says"),
@@ -89,6 +95,16 @@ pub const CHECKS: [(Check, &str, &str); 57] = [
     (FairCopy, "fair copy", "the fair copy, word for word"),
     (TrimmedCopy, "trimmed copy", "the trimmed copy, word for word"),
     (Stretch, "stretch", "the stretch of thread i, or an empty one"),
+    (Text, "text", "the text, byte for byte"),
+    (TextKept, "text kept", "a text buffer that is too short is unchanged"),
+    (TextBehind, "text behind", "behind the text the text buffer is unchanged"),
+    (
+        AsReport,
+        "as report",
+        "a text call gives the number and the value of a report call on the words, and leaves the same output and work words",
+    ),
+    (OwnText, "own text", "the text says what reading, link count and report give"),
+    (SameText, "same text", "logs with the same n, voices and links that count have the same text but for threads and loop"),
     (SameCopy, "same copy", "logs with the same version, n, links, least pauses and voices have the same fair copy"),
     (OtherCopy, "other copy", "a link more, an episode more, or another least pause, gives another fair copy"),
     (
@@ -123,7 +139,7 @@ pub const CHECKS: [(Check, &str, &str); 57] = [
     (TrimmedReport, "trimmed report", "log and trimmed copy have the same width and apart set"),
     (TrimmedCover, "trimmed cover", "the threads of the report on the trimmed copy are a cover of the log"),
     (Least, "least", "a log with the same n and ways has each link of the trimmed copy"),
-    (BothDoors, "both doors", "the Rust wrapper and the C header give the same link count"),
+    (BothDoors, "both doors", "the Rust wrapper and the C header give the same link count, and the same text"),
     (
         ReadCount,
         "read count",
@@ -193,6 +209,8 @@ pub struct Disagreement {
     pub found: Vec<(Check, String)>,
     pub lengths: String,
     pub words: Vec<u32>,
+    /// Where bytes came in: those behind the words.
+    pub rest: Vec<u8>,
 }
 
 pub type Checked<T> = Result<T, Box<Disagreement>>;

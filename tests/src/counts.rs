@@ -1,7 +1,7 @@
 //! How often everything was met, and the table that a run ends with.
 
 use crate::beside::Tally;
-use crate::reference::{Graph, MOST_WITH_VOICES, least};
+use crate::reference::{Graph, MOST_BYTES, MOST_WITH_VOICES, TEXT, least};
 use crate::shapes::BORDERS;
 use crate::words::{FROM, HEAD, LARGEST_PAUSE, LONGEST_COUNTED, Link, MOST_VOICES, Noted, Said, TO, VOICES};
 use crate::words::{episode, episodes, kind, number, pause, version, voices};
@@ -28,6 +28,7 @@ counted! {
         FairCopy = "fair_copy",
         TrimmedCopy = "trimmed_copy",
         Thread = "thread",
+        Text = "text",
     }
 }
 
@@ -264,6 +265,80 @@ counted! {
 }
 
 counted! {
+    /// Lengths of the text buffer.
+    TextLength {
+        Zero = "0",
+        Shorter = "shorter",
+        OneShort = "42,639",
+        Need = "42,640",
+        OneMore = "42,641",
+        Longer = "longer",
+    }
+}
+
+counted! {
+    /// How many bytes a text is asked of.
+    ByteCount {
+        None = "none",
+        Whole = "a multiple of four below 33,252",
+        OneMore = "one more than a multiple of four, below 33,252",
+        TwoMore = "two more",
+        ThreeMore = "three more",
+        NearMost = "33,252 to 33,255",
+        Most = "33,256",
+        NearOver = "33,257 to 33,259",
+        FourOver = "33,260",
+        Over = "more",
+    }
+}
+
+counted! {
+    /// What text calls give.
+    Told {
+        Report = "a report with one member or more",
+        NoApart = "a report with an empty apart set",
+        Fewer = "a report with fewer members than threads",
+        Loop = "a loop of two episodes or more",
+        Own = "a loop of one episode",
+        Refused = "a refusal of the words",
+        ShortOut = "11, the output is too short",
+        ShortWork = "12",
+        Bytes = "14 or 15",
+        BytesShort = "14 or 15, and output or work buffer is too short",
+        Short = "11, the text buffer is too short",
+        ShortBytes = "11, the text buffer is too short, for bytes that earn 14 or 15",
+        ShortWords = "11, the text buffer is too short, for words that are refused",
+        ShortOthers = "11, the text buffer is too short, and output or work buffer too",
+    }
+}
+
+counted! {
+    /// The lengths of texts.
+    TextSize {
+        Few = "at most 30 bytes",
+        Some = "31 to 100 bytes",
+        More = "101 to 1,000 bytes",
+        Many = "1,001 to 2,000 bytes",
+        Most = "more than 2,000 bytes",
+    }
+}
+
+counted! {
+    /// The figures of texts.
+    Figures {
+        One = "one digit",
+        Two = "two digits",
+        Three = "three digits",
+        Four = "four digits",
+        Five = "five digits",
+        Ten = "10",
+        NinetyNine = "99",
+        Hundred = "100",
+        Low = "more than 255",
+    }
+}
+
+counted! {
     /// The properties across calls.
     Property {
         SameLinks = "same links and least pauses, other order and repeats",
@@ -301,6 +376,12 @@ counted! {
         VoiceFewer = "one voice fewer",
         WidthOne = "one voice more or fewer, and another width",
         AsItems = "an episode for each voice and a link for each way",
+        AsReport = "a text call, and a report call on the same buffers",
+        OwnReport = "text of a report, and what other services give",
+        OwnLoop = "text of a loop, and what other services give",
+        OwnRefusal = "text of a refusal, and what other services give",
+        SameText = "same links and least pauses, text",
+        TextDoors = "text through both doors",
     }
 }
 
@@ -410,6 +491,68 @@ impl Voicing {
             ],
             _ => Vec::new(),
         };
+        met.into_iter().filter(|met| met.1).map(|met| met.0).collect()
+    }
+}
+
+impl TextLength {
+    /// That of a text buffer of so many bytes.
+    pub fn met(bytes: usize) -> TextLength {
+        match bytes {
+            0 => TextLength::Zero,
+            TEXT => TextLength::Need,
+            _ if bytes + 1 == TEXT => TextLength::OneShort,
+            _ if bytes == TEXT + 1 => TextLength::OneMore,
+            _ if bytes < TEXT => TextLength::Shorter,
+            _ => TextLength::Longer,
+        }
+    }
+}
+
+impl ByteCount {
+    fn met(bytes: usize) -> ByteCount {
+        match bytes {
+            0 => ByteCount::None,
+            _ if bytes + 4 < MOST_BYTES => {
+                [ByteCount::Whole, ByteCount::OneMore, ByteCount::TwoMore, ByteCount::ThreeMore][bytes % 4]
+            }
+            _ if bytes < MOST_BYTES => ByteCount::NearMost,
+            MOST_BYTES => ByteCount::Most,
+            _ if bytes < MOST_BYTES + 4 => ByteCount::NearOver,
+            _ if bytes == MOST_BYTES + 4 => ByteCount::FourOver,
+            _ => ByteCount::Over,
+        }
+    }
+}
+
+impl TextSize {
+    fn met(bytes: usize) -> TextSize {
+        match bytes {
+            0..=30 => TextSize::Few,
+            31..=100 => TextSize::Some,
+            101..=1_000 => TextSize::More,
+            1_001..=2_000 => TextSize::Many,
+            _ => TextSize::Most,
+        }
+    }
+}
+
+impl Figures {
+    /// Those of a text.
+    fn met(text: &str) -> Vec<Figures> {
+        let figures: BTreeSet<usize> = text.split([' ', '\n']).filter_map(|figure| figure.parse().ok()).collect();
+        let digits = |count: usize| figures.iter().any(|figure| figure.to_string().len() == count);
+        let met = [
+            (Figures::One, digits(1)),
+            (Figures::Two, digits(2)),
+            (Figures::Three, digits(3)),
+            (Figures::Four, digits(4)),
+            (Figures::Five, digits(5)),
+            (Figures::Ten, figures.contains(&10)),
+            (Figures::NinetyNine, figures.contains(&99)),
+            (Figures::Hundred, figures.contains(&100)),
+            (Figures::Low, figures.iter().any(|&figure| figure > 255)),
+        ];
         met.into_iter().filter(|met| met.1).map(|met| met.0).collect()
     }
 }
@@ -524,6 +667,7 @@ const MUST: [&[usize]; SERVICES] = [
     &[0, 1, 2, 3, 4, 5, 6, 7, 8, 9, 10, 11, 12, 18, 19, 20, 21],
     &[0, 1, 2, 3, 4, 5, 6, 7, 8, 9, 10, 11, 12, 13, 18, 19, 20, 21],
     &[0, 16, 17],
+    &[0, 1, 2, 3, 4, 5, 6, 7, 8, 9, 10, 11, 12, 13, 14, 15, 18, 19, 20, 21],
 ];
 
 #[derive(Clone)]
@@ -531,7 +675,7 @@ pub struct Counts {
     pub calls: u64,
     pub rounds: u64,
     numbers: [[u64; NUMBERS]; SERVICES],
-    lists: [(&'static str, &'static [&'static str], Vec<u64>); 20],
+    lists: [(&'static str, &'static [&'static str], Vec<u64>); 25],
     /// The calls that were compared with an older build.
     pub beside: Tally,
 }
@@ -564,6 +708,11 @@ impl Counts {
                 list("calls by shape of log, with a voices word", Shape::NAMES),
                 list("calls by voices of a log that passes", Voiced::NAMES),
                 list("calls refused at a voices word or beside one", Voicing::NAMES),
+                list("text calls by text length", TextLength::NAMES),
+                list("text calls by byte count", ByteCount::NAMES),
+                list("text calls by what they give", Told::NAMES),
+                list("texts by length", TextSize::NAMES),
+                list("texts by their figures", Figures::NAMES),
             ],
             beside: Tally::default(),
         }
@@ -656,6 +805,25 @@ impl Counts {
 
     pub fn voiced(&mut self, voiced: Voiced) {
         self.lists[18].2[voiced as usize] += 1;
+    }
+
+    /// A text call on so many bytes, with a text buffer of this kind.
+    pub fn text_lengths(&mut self, bytes: usize, text: TextLength) {
+        self.lists[20].2[text as usize] += 1;
+        self.lists[21].2[ByteCount::met(bytes) as usize] += 1;
+    }
+
+    /// What a text call gave.
+    pub fn told(&mut self, told: Told) {
+        self.lists[22].2[told as usize] += 1;
+    }
+
+    /// A text that was given.
+    pub fn printed(&mut self, text: &str) {
+        self.lists[23].2[TextSize::met(text.len()) as usize] += 1;
+        for figures in Figures::met(text) {
+            self.lists[24].2[figures as usize] += 1;
+        }
     }
 
     /// A log is refused.

@@ -21,7 +21,7 @@ pub fn save(file: &str, content: &[u8]) -> String {
 
 /// Prints the disagreement, and writes the words that came in to a file.
 pub fn show(disagreement: &Disagreement, origin: &str) {
-    let Disagreement { service, found, lengths, words } = disagreement;
+    let Disagreement { service, found, lengths, words, rest } = disagreement;
     println!("DISAGREEMENT in {service}, {origin}");
     for (check, what) in found {
         println!("  {}: {what}", name(*check));
@@ -32,8 +32,11 @@ pub fn show(disagreement: &Disagreement, origin: &str) {
     if words.len() <= 64 {
         println!("  words: {}", hex(words));
     }
+    if !rest.is_empty() {
+        println!("  bytes behind the words: {rest:02X?}");
+    }
     let file: String =
         format!("{service}-{origin}.bin").chars().map(|c| if c.is_ascii_alphanumeric() || c == '.' { c } else { '-' }).collect();
     let what = if *service == "thread" { "report words" } else { "log" };
-    println!("  {what} in the file: {}", save(&file, &bytes(words)));
+    println!("  {what} in the file: {}", save(&file, &[bytes(words), rest.clone()].concat()));
 }

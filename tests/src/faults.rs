@@ -5,16 +5,18 @@ use crate::counts::Service;
 use crate::lent::Lent;
 use crate::model::{report_on, trimmed_copy_of};
 use crate::reference::{
-    Graph, WORK, copy_need, copy_words, in_order, joined_past, least, noted, parts, report_need, said, voices,
+    Graph, TEXT, WORK, bytes, copy_need, copy_words, in_order, joined_past, least, noted, parts, report_need, said, voices,
 };
-use crate::services::{Answer, Door, ReadAnswer, Services, ThreadAnswer};
+use crate::services::{Answer, Door, ReadAnswer, Services, TextAnswer, ThreadAnswer};
+use crate::text_faults::{self, Buffers};
 use crate::voice_faults::{self, Placed};
 use crate::words::{
     APART, END, FROM, HEAD, LARGEST, LARGEST_PAUSE, LONGEST_COUNTED, Link, Noted, STEP, THREAD, TO, VOICES, WIDTH,
 };
+use crate::words::{bytes as as_bytes, report, word};
 use crate::words::{episode, episodes, head_word, in_version, kind, number, older, pause, to_word, version, voices_word};
-use crate::words::{report, word};
 use std::collections::{BTreeMap, BTreeSet};
+use std::ops::BitXorAssign;
 
 macro_rules! faults {
     ($($fault:ident = $name:literal,)*) => {
@@ -310,14 +312,97 @@ faults! {
     ApartNone = "16 for a report with threads and no apart word",
     ApartThreads = "17 by the count of apart words",
     ApartStart = "threads sought behind k apart words",
+    TextZero = "a zero before the first figure of a text",
+    TextZeros = "zeros in front of figures of a text, up to three digits",
+    TextSpaces = "two spaces before a figure of a text",
+    TextLineSpace = "a space at the end of a text's first line",
+    TextApartSpace = "a space behind apart in a text where the set is empty",
+    TextMembersSpace = "a space behind the last member in a text",
+    TextApartZero = "apart 0 in a text where the set is empty",
+    TextApartGone = "no line apart in a text where the set is empty",
+    TextNewline = "no newline at the end of a text",
+    TextEmptyLine = "an empty line at the end of a text",
+    TextReturns = "carriage returns in a text",
+    TextZeroByte = "a zero byte at the end of a text",
+    TextLastThread = "the last thread left out of a text",
+    TextThreadLength = "a thread's length for its first episode in a text",
+    TextThreadCount = "a thread's length in front of its episodes in a text",
+    TextLastStep = "the last episode of each thread left out of a text",
+    TextThreadsTurned = "the threads of a text the other way round",
+    TextStepsTurned = "the episodes of a text's threads the other way round",
+    TextOneMore = "the episodes of a text's threads counted from 1",
+    TextHundreds = "figures of a text by their last two digits",
+    TextLowByte = "figures of a text by their low 8 bits",
+    TextHexadecimal = "figures of a text in hexadecimal",
+    TextCommas = "commas in figures of a text",
+    TextNoZero = "no digit for the figure 0 in a text",
+    TextHead = "the version in the episodes of a text",
+    TextToWords = "to words for links in a text",
+    TextHeard = "links that do not count in the links of a text",
+    TextVoicesCounted = "voices words counted for links in a text",
+    TextMembers = "the count of members for the width in a text",
+    TextOrder = "links before episodes in a text",
+    TextWidthGone = "no line width in a text",
+    TextTwice = "a duet twice in the apart set of a text",
+    TextCover = "another cover or loop in a text than in the output",
+    TextLoopGone = "no line loop in a text",
+    TextLoopClosed = "the loop in a text with its first episode again at its end",
+    TextLoopLength = "the loop in a text with its length in front",
+    TextLoopTurned = "the loop in a text the other way round",
+    TextPlace = "the place in a text one too high",
+    TextNoPlace = "no place in a text",
+    TextNone = "no text for 11 and 12 of output and work buffer",
+    TextKept = "the text of a log again for the next refused one",
+    TextFourteenTold = "14 with the byte count as its place in a text",
+    TextFourteenCount = "14 with the byte count as its place",
+    TextFourteenLate = "14 only above 33,259 bytes",
+    TextFourteenEarly = "14 for 33,256 bytes",
+    TextFifteenFirst = "question 15 before question 14",
+    TextFifteenPlace = "15 with the count of whole words as its place",
+    TextFifteenNone = "15 for no bytes",
+    TextFifteenUnasked = "question 15 not asked, and the bytes behind the words left out",
+    TextHighFirst = "the highest byte of a word first",
+    TextElevenLate = "11 of the text buffer after 14 and 15",
+    TextElevenWords = "11 of the text buffer after the questions of the words",
+    TextElevenLast = "11 of the text buffer after 11 and 12 of the others",
+    TextElevenOwn = "11 of the text buffer only where the text itself does not fit",
+    TextElevenLess = "a text in 42,639 bytes",
+    TextElevenExact = "11 of a text buffer of 42,640 bytes",
+    TextElevenPlace = "11 of the text buffer with its length as the place",
+    TextElevenTwelve = "12 of the text buffer",
+    TextElevenTold = "a text in a text buffer that is too short",
+    TextElevenWrites = "11 of the text buffer writes to it",
+    TextElevenOut = "11 of the text buffer writes to the output",
+    TextElevenWork = "11 of the text buffer clears the work buffer",
+    TextRefusedOut = "14 and 15 write to the output",
+    TextRefusedWork = "14 and 15 clear the work buffer",
+    TextBytesMore = "one byte too many of a text counted",
+    TextBytesFewer = "one byte too few of a text counted",
+    TextBytesNone = "0 bytes for the text of a refusal",
+    TextBehind = "the byte behind a text changed",
+    TextCleared = "the text buffer zero behind a text",
+    TextLoopNumber = "0 for 13 by the text call",
+    TextLoopValue = "13 with a place one too high by the text call",
+    TextValueBytes = "the count of bytes for the count of words",
+    TextOutLeft = "no words written by the text call",
+    TextWorkLeft = "the last of 16,384 work words not zero after a text call",
+    TextLogChanged = "a byte of the log changed",
+    TextOutside = "the byte behind the lent text buffer changed",
+    TextOutsideLog = "the byte in front of a log changed",
+    TextRust = "a zero before a figure of a text by the Rust wrapper alone",
+    TextC = "a zero before a figure of a text by the C header alone",
+    TextEighteen = "question 18 not asked by the text call",
+    TextVoices = "questions 19 and 21 not asked by the text call",
+    TextLong = "the text of a report with links that do not count",
+    TextEpisodes = "n for the link count in a text",
 }
 
-/// The services with a fault, and the links that the fault keeps from one call to the next.
-pub struct Faulty<S>(Fault, BTreeSet<Link>, S);
+/// The services with a fault, and the links and the text that the fault keeps from one call to the next.
+pub struct Faulty<S>(Fault, BTreeSet<Link>, S, String);
 
 impl<S: Services> Faulty<S> {
     pub fn new(fault: Fault, services: S) -> Faulty<S> {
-        Faulty(fault, BTreeSet::new(), services)
+        Faulty(fault, BTreeSet::new(), services, String::new())
     }
 
     /// A call of a service, which gets the words of the log as the fault misreads them.
@@ -408,7 +493,8 @@ fn misread_head(fault: Fault, service: Service, head: u32) -> u32 {
         | (Fault::EighteenLinks, Service::Links)
         | (Fault::EighteenReport, Service::Report)
         | (Fault::EighteenFair, Service::FairCopy)
-        | (Fault::EighteenTrim, Service::TrimmedCopy) => head_word(version.min(1), n),
+        | (Fault::EighteenTrim, Service::TrimmedCopy)
+        | (Fault::TextEighteen, Service::Text) => head_word(version.min(1), n),
         (Fault::VersionBit, _) => head_word(version % 2, n),
         (Fault::VersionTwoBits, _) => head_word(version % 4, n),
         (Fault::VersionThreeBits, _) => head_word(version % 8, n),
@@ -442,6 +528,7 @@ fn counts(fault: Fault, service: Service, version: usize, pauses: &[usize], all_
         (Fault::ReportLong, Service::Report) => true,
         (Fault::CountLong, Service::Links) => true,
         (Fault::TrimLong, Service::TrimmedCopy) => true,
+        (Fault::TextLong, Service::Text) => true,
         _ => return None,
     })
 }
@@ -449,7 +536,7 @@ fn counts(fault: Fault, service: Service, version: usize, pauses: &[usize], all_
 /// A log of version 1 in which those links count that count with the fault: their to words have pause 0, the others the largest.
 /// None where the fault is another, the log is refused, or the service does not ask which links count.
 fn recounted(fault: Fault, service: Service, log: &[u32]) -> Option<Vec<u32>> {
-    let asked = matches!(service, Service::Links | Service::Report | Service::TrimmedCopy);
+    let asked = matches!(service, Service::Links | Service::Report | Service::TrimmedCopy | Service::Text);
     if !asked || counts(fault, service, 0, &[0], false).is_none() || in_order(log).is_err() {
         return None;
     }
@@ -511,18 +598,17 @@ fn heard(words: &[u32]) -> Vec<Noted> {
     links
 }
 
-/// Changes the word that stands `from_end` words before the end, where there is one.
-fn changed(words: &mut [u32], from_end: usize) {
+/// Changes the word or byte that stands `from_end` words before the end, where there is one.
+fn changed<T: BitXorAssign + From<bool>>(words: &mut [T], from_end: usize) {
     if from_end <= words.len() {
-        let place = words.len() - from_end;
-        words[place] ^= 1;
+        change_at(words, words.len() - from_end);
     }
 }
 
-/// Changes the word at `place`, where there is one.
-fn change_at(words: &mut [u32], place: usize) {
+/// Changes the word or byte at `place`, where there is one.
+pub fn change_at<T: BitXorAssign + From<bool>>(words: &mut [T], place: usize) {
     if let Some(word) = words.get_mut(place) {
-        *word ^= 1;
+        *word ^= true.into();
     }
 }
 
@@ -1208,5 +1294,30 @@ impl<S: Services> Services for Faulty<S> {
             changed(report.lent_mut(), 1);
         }
         answer
+    }
+
+    fn text(&mut self, door: Door, log: &mut Lent<u8>, text: &mut Lent<u8>, out: &mut Lent, work: &mut Lent) -> TextAnswer {
+        let (words, asked) = (bytes(log.lent()), text.len() >= TEXT);
+        let given = text_faults::called(self.0, door, &mut self.2, &mut Buffers { log, text, out, work });
+        let mut answer = match (given, &words) {
+            (Some(answer), _) => answer,
+            (None, Ok(words)) if asked => self.misread(Service::Text, &mut Lent::of(words), |services, words| {
+                services.text(door, &mut Lent::of(&as_bytes(words.lent())), text, out, work)
+            }),
+            _ => self.2.text(door, log, text, out, work),
+        };
+        let TextAnswer { number, value, .. } = answer;
+        self.buffers(Answer { number, value }, &mut Lent::new(), out, work);
+        if self.0 == Fault::LogChanged {
+            changed(log.lent_mut(), 1);
+        }
+        // The text of a refusal by the fault.
+        if let (Ok(words), true) = (&words, asked) {
+            let (number, value) = self.refusal(words, number, value);
+            if !matches!(number, 0 | 13) {
+                answer = text_faults::refuse(number, value, text);
+            }
+        }
+        text_faults::altered(self.0, door, answer, &mut Buffers { log, text, out, work }, &mut self.3)
     }
 }

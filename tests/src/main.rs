@@ -20,6 +20,7 @@ mod rounds;
 mod runs;
 mod services;
 mod shapes;
+mod text_faults;
 mod trimmed;
 mod versions;
 mod voice_faults;
@@ -30,7 +31,7 @@ use beside::Older;
 use std::process::ExitCode;
 
 const USAGE: &str =
-    "cross-checks [--calls N] [--seed S] [--threads T]   random calls; 125,000 with seed 1 in one thread unless said
+    "cross-checks [--calls N] [--seed S] [--threads T]   random calls; 150,000 with seed 1 in one thread unless said
 cross-checks --round R                              one round again, by the seed that a disagreement prints
 cross-checks --beside LIBRARY [..]                  with one of these: an older build, a shared object, makes each call too
 cross-checks --program PATH [--seed S]              the printing program too

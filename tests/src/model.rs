@@ -1,10 +1,11 @@
 //! A model of the library that is made from the reference. With it the checks can be tried without the library: they must take all
 //! its answers, and catch each fault in them. It shows nothing of the library.
 
+use crate::checkers::Shown;
 use crate::lent::Lent;
-use crate::reference::{Graph, WORK, copy_need, copy_words, furthest, in_order, least, lent, noted, parts, report_need};
-use crate::reference::{smallest_cover, trimmed};
-use crate::services::{Answer, Door, ReadAnswer, Services, ThreadAnswer};
+use crate::reference::{Graph, Refusal, WORK, copy_need, copy_words, furthest, in_order, least, lent, noted, parts, report_need};
+use crate::reference::{bytes, loop_text, refusal_text, report_text, smallest_cover, text_lent, trimmed};
+use crate::services::{Answer, Door, ReadAnswer, Services, TextAnswer, ThreadAnswer};
 use crate::words::{LOOP, STEP, older, report, version, word};
 use std::slice::{from_raw_parts, from_raw_parts_mut};
 
@@ -138,6 +139,39 @@ fn trimmed_copy_call(lent: (&[u32], &mut [u32], &mut [u32])) -> Answer {
     lending(lent, copy_needed, trimmed_copy_words)
 }
 
+/// The text of a log that passes.
+fn text_on(log: &[u32]) -> String {
+    let graph = Graph::of(log);
+    if let Some(steps) = a_loop(&graph) {
+        return loop_text(&steps);
+    }
+    let (apart, threads) = parts_of(&graph);
+    report_text(graph.n, graph.links.len(), &Shown { width: threads.len(), apart, threads })
+}
+
+/// The text that is right for these bytes, on buffers that suffice.
+pub fn text_of(input: &[u8]) -> String {
+    match bytes(input).and_then(|log| in_order(&log).map(|_| log)) {
+        Ok(log) => text_on(&log),
+        Err(refusal) => refusal_text(refusal),
+    }
+}
+
+fn text_call(log: &[u8], text: &mut [u8], out: &mut [u32], work: &mut [u32]) -> TextAnswer {
+    if let Err(refusal) = text_lent(text.len()) {
+        return TextAnswer { number: refusal.number, value: refusal.place, bytes: 0 };
+    }
+    let (number, value, written) = match bytes(log) {
+        Err(refusal) => (refusal.number, refusal.place, refusal_text(refusal)),
+        Ok(log) => match report_call((&log, out, work)) {
+            Answer { number: number @ (0 | 13), value } => (number, value, text_on(&log)),
+            Answer { number, value } => (number, value, refusal_text(Refusal { number, place: value })),
+        },
+    };
+    text[..written.len()].copy_from_slice(written.as_bytes());
+    TextAnswer { number, value, bytes: written.len() }
+}
+
 impl Services for Model {
     fn read(&mut self, _: Door, log: &mut Lent) -> ReadAnswer {
         read(log.lent())
@@ -162,6 +196,10 @@ impl Services for Model {
     fn thread(&mut self, _: Door, report: &mut Lent, i: usize) -> ThreadAnswer {
         thread(report.lent(), i)
     }
+
+    fn text(&mut self, _: Door, log: &mut Lent<u8>, text: &mut Lent<u8>, out: &mut Lent, work: &mut Lent) -> TextAnswer {
+        text_call(log.lent(), text.lent_mut(), out.lent_mut(), work.lent_mut())
+    }
 }
 
 /// The model's functions as those of a build: each takes pointers and lengths of slices of which no two share a word.
@@ -181,6 +219,24 @@ pub mod header {
     pub unsafe extern "C" fn thread(report: *const u32, report_words: usize, i: usize) -> ThreadAnswer {
         // SAFETY: the caller gives the pointer and the length of a slice.
         super::thread(unsafe { from_raw_parts(report, report_words) }, i)
+    }
+
+    pub unsafe extern "C" fn text(
+        log: *const u8,
+        log_bytes: usize,
+        text: *mut u8,
+        text_bytes: usize,
+        out: *mut u32,
+        out_words: usize,
+        work: *mut u32,
+        work_words: usize,
+    ) -> TextAnswer {
+        // SAFETY: the caller gives the pointers and the lengths of four slices, and no two of them share a byte.
+        let (log, text, out, work) = unsafe {
+            let (log, text) = (from_raw_parts(log, log_bytes), from_raw_parts_mut(text, text_bytes));
+            (log, text, from_raw_parts_mut(out, out_words), from_raw_parts_mut(work, work_words))
+        };
+        super::text_call(log, text, out, work)
     }
 
     macro_rules! lending {

@@ -1,12 +1,15 @@
-//! The printing program: its text on many inputs, compared line by line with what it must be. The wrapper's reports are
-//! displayed as the same text, and are judged too.
+//! The printing program: its text on many inputs, compared line by line with what it must be, and byte for byte with the text that
+//! the text service gives. The wrapper's reports are displayed as the same text, and are judged and compared too.
 
 use crate::checkers::{self, Shown};
 use crate::checks::Found;
 use crate::disagreement;
 use crate::model;
 use crate::random::Random;
-use crate::reference::{Graph, Refusal, Subject, bytes, in_order};
+use crate::reference::{
+    Graph, Refusal, Subject, TEXT, WORK, bytes, in_order, line, loop_text, refusal_text, report_need, report_text,
+};
+use crate::services::{TextAnswer, header, texting};
 use crate::shapes;
 use crate::words::{TO, bytes as as_bytes, in_version, kind, log, number, with_voices};
 use std::io::{Read, Write};
@@ -20,28 +23,6 @@ const FLOOR: usize = 5;
 const MOST_INPUTS: usize = 20_000;
 /// The answers of the program: no refusal, and the refusals that it can give.
 const NUMBERS: [usize; 18] = [0, 1, 2, 3, 4, 5, 6, 7, 8, 9, 10, 13, 14, 15, 18, 19, 20, 21];
-
-fn line(label: &str, figures: &[usize]) -> String {
-    let figures: String = figures.iter().map(|figure| format!(" {figure}")).collect();
-    format!("{label}{figures}\n")
-}
-
-fn refusal_text(refusal: Refusal) -> String {
-    format!("refused {} at {}\n", refusal.number, refusal.place)
-}
-
-fn loop_text(steps: &[usize]) -> String {
-    refusal_text(Refusal { number: 13, place: steps.len() }) + &line("loop", steps)
-}
-
-fn report_text(n: usize, links: usize, shown: &Shown) -> String {
-    let mut text =
-        line("episodes", &[n]) + &line("links", &[links]) + &line("width", &[shown.width]) + &line("apart", &shown.apart);
-    for thread in &shown.threads {
-        text += &line("thread", thread);
-    }
-    text
-}
 
 /// The figures of a line that begins with `label`.
 fn figures(line: Option<&str>, label: &str) -> Result<Vec<usize>, String> {
@@ -104,12 +85,34 @@ fn wrapped(input: &[u8]) -> Result<Report, Failure> {
 fn judge_wrapped(input: &[u8], wrapped: &Result<Report, Failure>) -> Result<u32, String> {
     let passed = bytes(input).ok().and_then(|words| Subject::new(words).passed);
     let due = passed.map_or(0, |passed| passed.link_count());
-    let text = match wrapped {
-        Ok(report) if report.links != due => return Err(format!("the wrapper: {} links instead of {due}", report.links)),
-        Ok(report) => report.to_string(),
-        Err(failure) => failure.to_string(),
-    };
-    judge(input, &text).map_err(|what| format!("the wrapper: {what}"))
+    if let Ok(Report { links, .. }) = wrapped
+        && *links != due
+    {
+        return Err(format!("the wrapper: {links} links instead of {due}"));
+    }
+    judge(input, &displayed(wrapped)).map_err(|what| format!("the wrapper: {what}"))
+}
+
+/// What the wrapper gave as it is displayed.
+fn displayed(wrapped: &Result<Report, Failure>) -> String {
+    wrapped.as_ref().map_or_else(Failure::to_string, Report::to_string)
+}
+
+/// The text that the text service gives for an input, on buffers like those that the program lends.
+fn served(input: &[u8]) -> String {
+    let (mut text, mut out, mut work) = (vec![0xA5; TEXT], vec![u32::MAX; report_need(200, 0)], vec![u32::MAX; WORK]);
+    let TextAnswer { bytes, .. } = texting(header::zohapy_text, input, &mut text, &mut out, &mut work);
+    String::from_utf8_lossy(&text[..bytes]).into_owned()
+}
+
+/// Compares a text, and what the wrapper prints and displays for the same input, with the text that the text service gives.
+fn compare(input: &[u8], text: &str, wrapped: &Result<Report, Failure>) -> Result<(), String> {
+    let served = served(input);
+    let all = [("the text", text), ("the wrapper's text", &zohapy::printed(input)), ("the wrapper", &displayed(wrapped))];
+    match all.into_iter().find(|other| other.1 != served) {
+        Some((what, other)) => Err(format!("{what}: {other:?} instead of {served:?}, as the text service has it")),
+        None => Ok(()),
+    }
 }
 
 /// Runs the program on an input that is written in pieces of at most `piece` bytes.
@@ -201,7 +204,11 @@ pub fn check(path: &str, seed: u64) -> bool {
         uncounted += usize::from(wrapped.as_ref().is_ok_and(|report| report.links < links_heard(&input)));
         voiced += usize::from(wrapped.as_ref().is_ok_and(|report| report.apart.len() < report.threads.len()));
         let judged = judge_wrapped(&input, &wrapped);
-        match judged.and_then(|_| printed(path, &input, piece, pause)).and_then(|text| judge(&input, &text)) {
+        let judged = judged.and_then(|_| printed(path, &input, piece, pause)).and_then(|text| {
+            let number = judge(&input, &text)?;
+            compare(&input, &text, &wrapped).map(|()| number)
+        });
+        match judged {
             Ok(number) => met[number as usize] += 1,
             Err(what) => {
                 println!(
@@ -235,28 +242,17 @@ pub fn sample(log: &str) -> bool {
     let judged = std::fs::read(log)
         .and_then(|input| Ok((input, std::fs::read_to_string(&stored)?)))
         .map_err(|error| error.to_string())
-        .and_then(|(input, text)| judge_wrapped(&input, &wrapped(&input)).and_then(|_| judge(&input, &text)));
+        .and_then(|(input, text)| {
+            let wrapped = wrapped(&input);
+            judge_wrapped(&input, &wrapped)?;
+            let number = judge(&input, &text)?;
+            compare(&input, &text, &wrapped).map(|()| number)
+        });
     match judged {
         Ok(number) => println!("{log}: the stored text agrees; its answer is {number}"),
         Err(ref what) => println!("DISAGREEMENT in {}: {what}", stored.display()),
     }
     judged.is_ok()
-}
-
-/// The text that is right, with the model's cover or loop.
-fn right_text(input: &[u8]) -> String {
-    let log = match bytes(input) {
-        Ok(log) => log,
-        Err(refusal) => return refusal_text(refusal),
-    };
-    if let Err(refusal) = in_order(&log) {
-        return refusal_text(refusal);
-    }
-    let graph = Graph::of(&log);
-    match model::report_on(&log) {
-        Some(words) => report_text(graph.n, graph.links.len(), &checkers::layout(&words).expect("a report")),
-        None => loop_text(&model::a_loop(&graph).expect("a loop")),
-    }
 }
 
 /// How many to words an input has.
@@ -316,10 +312,16 @@ const TEXT_FAULTS: [(&str, Alteration); 20] = [
 pub fn faults(wrapper: bool) -> bool {
     let mut random = Random::new(3);
     let inputs: Vec<Vec<u8>> = (0..600).map(|index| input(index, &mut random)).collect();
-    let texts: Vec<String> = inputs.iter().map(|input| right_text(input)).collect();
+    let texts: Vec<String> = inputs.iter().map(|input| model::text_of(input)).collect();
     let mut good = true;
     for (input, text) in inputs.iter().zip(&texts) {
-        let own = |_| if wrapper { judge_wrapped(input, &wrapped(input)) } else { Ok(0) };
+        let own = |number| {
+            if !wrapper {
+                return Ok(number);
+            }
+            let wrapped = wrapped(input);
+            judge_wrapped(input, &wrapped).and_then(|_| compare(input, &served(input), &wrapped)).map(|()| number)
+        };
         if let Err(what) = judge(input, text).and_then(own) {
             println!("a right text is not taken: {what}");
             good = false;
@@ -338,6 +340,14 @@ pub fn faults(wrapper: bool) -> bool {
             Some(judge_wrapped(input, &Ok(Report { links: count(input), ..report })))
         };
         good &= all_refused(&format!("{name} in the wrapper's report"), inputs.iter().filter_map(altered).collect());
+    }
+    if wrapper {
+        // Texts that are right too.
+        let altered = |input: &Vec<u8>| {
+            let right = model::text_of(input);
+            (right != served(input)).then(|| compare(input, &right, &wrapped(input)).map(|()| 0))
+        };
+        good &= all_refused("another cover or loop than that of the text service", inputs.iter().filter_map(altered).collect());
     }
     good
 }

@@ -1,15 +1,18 @@
 //! A round: one log, and calls of all services on it.
 
-use crate::calls::{Caller, Copied, Gave, Lengths, Trimmed};
+use crate::calls::{Caller, Copied, Counted, Gave, Lengths, Printed, TextLengths, Trimmed};
 use crate::checkers::Shown;
 use crate::checks::{Check, Checked, Disagreement};
 use crate::counts::{Asked, Property};
 use crate::damage;
+use crate::lent::LONGEST_BYTES;
 use crate::random::Random;
-use crate::reference::{Graph, MOST_WITH_VOICES, Subject, WORK, copy_need, in_order, noted, parts, report_need};
-use crate::services::{ReadAnswer, Services};
+use crate::reference::{self, Graph, Input, MOST_BYTES, MOST_WITH_VOICES, Refusal, Subject, TEXT, WORK};
+use crate::reference::{copy_need, in_order, loop_text, noted, parts, refusal_text, report_need, report_text};
+use crate::services::{Door, ReadAnswer, Services};
 use crate::shapes::{self, Linked, any_pause, long_pause, short_pause};
-use crate::words::{LARGEST, LARGEST_PAUSE, LONGEST_COUNTED, Link, Noted, STEP, Said, TO, VOICES, head_word, kind, report, word};
+use crate::words::{LARGEST, LARGEST_PAUSE, LONGEST_COUNTED, Link, Noted, STEP, Said, TO, VOICES};
+use crate::words::{bytes, head_word, kind, number, report, word};
 use crate::{trimmed, versions, voices};
 
 /// A round of the run. All of it follows from its seed.
@@ -50,11 +53,14 @@ pub fn round<S: Services>(caller: &mut Caller<S>, seed: u64) -> Checked<()> {
         let _ = caller.trimmed_copy(&subject, lengths, random)?;
     }
     let mut whole = None;
-    for _ in 0..3 {
+    for _ in 0..2 {
         let lengths = caller.lengths(report_need, random);
         if let Gave::Report(shown, words) = caller.report(&subject, lengths, random)? {
             whole = Some((shown, words));
         }
+    }
+    for _ in 0..2 {
+        texts(caller, &subject, report_need, random)?;
     }
     match whole {
         Some((shown, words)) if random.chance(1, if shown.width <= 24 { 5 } else { 20 }) => {
@@ -63,6 +69,29 @@ pub fn round<S: Services>(caller: &mut Caller<S>, seed: u64) -> Checked<()> {
         None if random.chance(1, 8) => other_words(caller, subject.words, random),
         _ => Ok(()),
     }
+}
+
+/// The text of a log: of its bytes, or of more or fewer bytes.
+fn texts<S: Services>(caller: &mut Caller<S>, log: &Subject, need: usize, random: &mut Random) -> Checked<()> {
+    let lengths = caller.text_lengths(need, random);
+    let mut given = bytes(&log.words);
+    match random.below(20) {
+        0..=13 => return caller.text(&Input::new(given, log), lengths, random).map(drop),
+        14 | 15 => given.truncate(given.len().saturating_sub(random.between(1, 4))),
+        16 | 17 => given.extend((0..random.between(1, 4)).map(|_| random.word() as u8)),
+        18 => given.resize(random.between(MOST_BYTES - 8, MOST_BYTES + 8), random.word() as u8),
+        _ => {
+            let near = random.between(MOST_BYTES - 4, MOST_BYTES + 4);
+            let count = *random.pick(&[0, 1, 2, 3, MOST_BYTES, near, near, MOST_BYTES + 4, 40_001, LONGEST_BYTES]);
+            given.resize(count, random.word() as u8);
+        }
+    }
+    // Bytes that are not refused are those of another log, of no shape.
+    let shape = caller.shape.take();
+    let other = reference::bytes(&given).ok().filter(|words| *words != log.words).map(Subject::new);
+    let printed = caller.text(&Input::new(given, other.as_ref().unwrap_or(log)), lengths, random);
+    caller.shape = shape;
+    printed.map(drop)
 }
 
 /// Numbers of threads that no report here has.
@@ -139,7 +168,13 @@ pub fn properties<S: Services>(caller: &mut Caller<S>, random: &mut Random) -> C
     let other = copied(caller, &same, random)?;
     let differ = |check, what: &str, subject: &Subject| {
         let found = vec![(check, what.to_string())];
-        Err(Box::new(Disagreement { service: "properties", found, lengths: String::new(), words: subject.words.clone() }))
+        Err(Box::new(Disagreement {
+            service: "properties",
+            found,
+            lengths: String::new(),
+            words: subject.words.clone(),
+            rest: Vec::new(),
+        }))
     };
     if copy != other || copy.is_err() {
         return differ(Check::SameCopy, "the copies of two logs with the same links, least pauses and voices differ", &same);
@@ -148,6 +183,16 @@ pub fn properties<S: Services>(caller: &mut Caller<S>, random: &mut Random) -> C
     let gave = reported(caller, &first, random)?;
     if !alike(&gave, &reported(caller, &same, random)?) {
         return differ(Check::SameReport, "the reports on two logs with the same links differ", &same);
+    }
+
+    caller.counts.property(Property::TextDoors);
+    let one = texted(caller, Door::Rust, &first, random)?;
+    if texted(caller, Door::C, &first, random)? != one {
+        return differ(Check::BothDoors, "another text through the Rust wrapper than through the C header", &first);
+    }
+    caller.counts.property(Property::SameText);
+    if settled(&texted(caller, Door::Rust, &same, random)?) != settled(&one) {
+        return differ(Check::SameText, "the texts of two logs with the same links differ", &same);
     }
 
     caller.counts.property(Property::ReadBack);
@@ -172,7 +217,8 @@ pub fn properties<S: Services>(caller: &mut Caller<S>, random: &mut Random) -> C
 
     caller.counts.property(Property::Counted);
     let count = caller.links(&first, random)?;
-    let most = caller.read(&first, random)?.links;
+    let reading = caller.read(&first, random)?;
+    let most = reading.links;
     let counted = linked.counted().len();
     if count != Ok(counted) || due.links > most {
         let what = format!(
@@ -181,6 +227,7 @@ pub fn properties<S: Services>(caller: &mut Caller<S>, random: &mut Random) -> C
         );
         return differ(Check::ReadCount, &what, &first);
     }
+    own_text(caller, &first, (reading, &count, &gave), random)?;
     let others = [(&same, "the same links and least pauses"), (&back, "the links of the copy")];
     for (other, what) in others {
         if caller.links(other, random)? != count {
@@ -335,6 +382,55 @@ fn other_pause(linked: &Linked, random: &mut Random) -> Option<Linked> {
         links[at].2 = if random.chance(1, 2) { least - 1 } else { random.below(least) };
     }
     Some(Linked { links, ..linked.clone() })
+}
+
+/// A text call on a log, on buffers that suffice.
+pub fn texted<S: Services>(caller: &mut Caller<S>, door: Door, log: &Subject, random: &mut Random) -> Checked<Printed> {
+    let others = Lengths { out: report_need(200, 0) + random.below(3), work: WORK + random.below(3) };
+    caller.text_by(door, &Input::of(log), TextLengths { text: TEXT + random.below(3), others }, random)
+}
+
+/// The text of a log says what its reading, its link count and its report gave.
+pub fn own_text<S: Services>(
+    caller: &mut Caller<S>,
+    subject: &Subject,
+    (reading, count, report): (ReadAnswer, &Counted, &Gave),
+    random: &mut Random,
+) -> Checked<()> {
+    let (property, number, value, text) = match report {
+        Gave::Refused(..) => {
+            let ReadAnswer { number, place, .. } = reading;
+            (Property::OwnRefusal, number, place, refusal_text(Refusal { number, place }))
+        }
+        Gave::Loop(words) => {
+            let steps: Vec<usize> = words.iter().skip(1).map(|&step| number(step)).collect();
+            (Property::OwnLoop, 13, steps.len(), loop_text(&steps))
+        }
+        Gave::Report(shown, words) => {
+            let text = report_text(reading.episodes, count.unwrap_or(0), shown);
+            (Property::OwnReport, 0, words.len(), text)
+        }
+    };
+    // Logs that are refused can have more bytes than a log may have.
+    if 4 * subject.words.len() > MOST_BYTES {
+        return Ok(());
+    }
+    caller.counts.property(property);
+    let door = if random.chance(1, 2) { Door::C } else { Door::Rust };
+    let printed = texted(caller, door, subject, random)?;
+    if printed == (Printed { number, value, text }) {
+        return Ok(());
+    }
+    let found = vec![(Check::OwnText, format!("another text than what is given for the same log: {printed:?}"))];
+    let (words, rest) = (subject.words.clone(), Vec::new());
+    Err(Box::new(Disagreement { service: "properties", found, lengths: String::new(), words, rest }))
+}
+
+/// The number of a text, and its lines but for threads and loop.
+fn settled(printed: &Printed) -> (u32, Vec<&str>) {
+    let lines = printed.text.split_inclusive('\n').filter(|line| !line.starts_with("thread") && !line.starts_with("loop"));
+    // The loop that is shown can be longer or shorter.
+    (printed.number, lines.filter(|_| printed.number != 13).collect())
 }
 
 pub fn copied<S: Services>(caller: &mut Caller<S>, subject: &Subject, random: &mut Random) -> Checked<Copied> {

@@ -14,7 +14,7 @@ use std::panic::{AssertUnwindSafe, catch_unwind};
 use std::sync::atomic::{AtomicBool, Ordering};
 use std::time::Instant;
 
-pub const DEFAULT_CALLS: u64 = 125_000;
+pub const DEFAULT_CALLS: u64 = 150_000;
 /// How often everything that is counted has to be met, in a run of the default number of calls or more.
 const FLOOR: u64 = 50;
 
@@ -23,7 +23,13 @@ fn guarded<S: Services>(caller: &mut Caller<S>, make: impl FnOnce(&mut Caller<S>
     let made = catch_unwind(AssertUnwindSafe(|| make(caller)));
     made.unwrap_or_else(|_| {
         let found = vec![(Check::Ends, "a panic, whose message stands above".to_string())];
-        Err(Box::new(Disagreement { service: "round", found, lengths: String::new(), words: caller.words().to_vec() }))
+        Err(Box::new(Disagreement {
+            service: "round",
+            found,
+            lengths: String::new(),
+            words: caller.words().to_vec(),
+            rest: caller.rest(),
+        }))
     })
 }
 
@@ -98,6 +104,9 @@ fn checks_of<S: Services>(wanted: &Wanted, services: impl Fn() -> S + Sync) -> b
         counts.beside.print();
         if !older.counts_links() {
             println!("the older build has no link count, so these calls were not compared");
+        }
+        if !older.prints() {
+            println!("the older build has no text, so these calls were not compared");
         }
         if !older.has_versions() {
             println!("the older build has no versions, so calls on logs of another version than 0 were not compared");

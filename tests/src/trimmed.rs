@@ -7,7 +7,7 @@ use crate::counts::{Property, Shape};
 use crate::damage;
 use crate::random::Random;
 use crate::reference::{Graph, Subject, in_order};
-use crate::rounds::{again, copied, copy_lengths, reported};
+use crate::rounds::{again, copied, copy_lengths, own_text, reported};
 use crate::services::{ReadAnswer, Services};
 use crate::shapes::{self, Linked, long_pause, short_pause};
 use crate::words::{LONGEST_COUNTED, Link, Noted, hex};
@@ -48,7 +48,13 @@ pub fn properties<S: Services>(caller: &mut Caller<S>, random: &mut Random) -> C
     if found.0.is_empty() {
         return Ok(());
     }
-    Err(Box::new(Disagreement { service: "properties", found: found.0, lengths: String::new(), words: given.log.words }))
+    Err(Box::new(Disagreement {
+        service: "properties",
+        found: found.0,
+        lengths: String::new(),
+        words: given.log.words,
+        rest: Vec::new(),
+    }))
 }
 
 /// A trimmed copy call on buffers that suffice.
@@ -64,11 +70,12 @@ fn same_outcome<S: Services>(
     subject: &Subject,
     random: &mut Random,
 ) -> Checked<Option<(Shown, usize, Vec<u32>)>> {
-    let read = caller.read(subject, random)?;
-    let read = (read.number, read.place);
+    let reading = caller.read(subject, random)?;
+    let read = (reading.number, reading.place);
     let count = caller.links(subject, random)?;
     let report = reported(caller, subject, random)?;
     let trimmed = trimmed(caller, subject, random)?;
+    own_text(caller, subject, (reading, &count, &report), random)?;
     let outcome = match &report {
         Gave::Refused(number, place) => format!("refused {number} at {place}"),
         Gave::Loop(_) => "a loop".into(),
@@ -86,7 +93,7 @@ fn same_outcome<S: Services>(
             let (number, place) = read;
             let what = format!("reading {number} at {place}, link count {count:?}, report {outcome}, trimmed copy {trimmed:X?}");
             let (found, words) = (vec![(Check::SameOutcome, what)], subject.words.clone());
-            Err(Box::new(Disagreement { service: "properties", found, lengths: String::new(), words }))
+            Err(Box::new(Disagreement { service: "properties", found, lengths: String::new(), words, rest: Vec::new() }))
         }
     }
 }

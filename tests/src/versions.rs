@@ -51,7 +51,7 @@ pub fn properties<S: Services>(caller: &mut Caller<S>, random: &mut Random) -> C
     if found.0.is_empty() {
         return Ok(());
     }
-    Err(Box::new(Disagreement { service: "properties", found: found.0, lengths: String::new(), words }))
+    Err(Box::new(Disagreement { service: "properties", found: found.0, lengths: String::new(), words, rest: Vec::new() }))
 }
 
 /// The log in both versions; what the calls gave comes back.

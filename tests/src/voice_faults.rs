@@ -4,7 +4,7 @@ use crate::checkers::Shown;
 use crate::counts::Service;
 use crate::faults::{Fault, shown_on};
 use crate::reference::{Graph, copy_need, copy_words, furthest, in_order, parts, report_need, said};
-use crate::services::{Answer, ReadAnswer, ThreadAnswer};
+use crate::services::{Answer, ReadAnswer, TextAnswer, ThreadAnswer};
 use crate::words::{APART, END, FROM, MOST_VOICES, Said, VOICES, WIDTH, older};
 use crate::words::{episode, episodes, kind, number, voices, voices_word, word};
 use std::collections::BTreeMap;
@@ -23,6 +23,12 @@ fn places_word(number: u32) -> bool {
 impl Placed for ReadAnswer {
     fn move_on(&mut self, words: usize) {
         self.place += if places_word(self.number) { words } else { 0 };
+    }
+}
+
+impl Placed for TextAnswer {
+    fn move_on(&mut self, words: usize) {
+        self.value += if places_word(self.number) { words } else { 0 };
     }
 }
 
@@ -71,6 +77,7 @@ fn is_in(fault: Fault, service: Service) -> bool {
         | Fault::DoorsOut => service == Service::Report,
         Fault::VoicesFair => service == Service::FairCopy,
         Fault::VoicesTrim => service == Service::TrimmedCopy,
+        Fault::TextVoices => service == Service::Text,
         _ => true,
     }
 }
@@ -107,9 +114,12 @@ pub fn reread(fault: Fault, service: Service, log: &[u32]) -> Option<Vec<u32>> {
             let beside = |before: &[u32], word: u32| before.last().is_some_and(|&last| episode(last) == episode(word));
             kept(given, |before, word| beside(before, word) || named(before, word).is_none())
         }
-        Fault::VoicesRead | Fault::VoicesLinks | Fault::VoicesReport | Fault::VoicesFair | Fault::VoicesTrim => {
-            kept(given, |before, word| voices(word) <= MOST_VOICES && named(before, word).is_none())
-        }
+        Fault::VoicesRead
+        | Fault::VoicesLinks
+        | Fault::VoicesReport
+        | Fault::VoicesFair
+        | Fault::VoicesTrim
+        | Fault::TextVoices => kept(given, |before, word| voices(word) <= MOST_VOICES && named(before, word).is_none()),
         _ => return heard_otherwise(fault, log),
     };
     (words != given).then(|| with_words(log, words))

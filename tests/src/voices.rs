@@ -73,7 +73,13 @@ pub fn properties<S: Services>(caller: &mut Caller<S>, random: &mut Random) -> C
     if found.0.is_empty() {
         return Ok(());
     }
-    Err(Box::new(Disagreement { service: "properties", found: found.0, lengths: String::new(), words: subject.words }))
+    Err(Box::new(Disagreement {
+        service: "properties",
+        found: found.0,
+        lengths: String::new(),
+        words: subject.words,
+        rest: Vec::new(),
+    }))
 }
 
 /// The order of the voices words does not matter.

@@ -4,3 +4,4 @@ pub mod Choices
 pub mod Said
 pub mod SmallLogs
 pub mod ThreadsLeft
+pub mod Texts

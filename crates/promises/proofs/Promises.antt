@@ -4,9 +4,10 @@
 -- scope's numbers. The report's words are the first `c` of the output, `take c o'`, where `c` is the count that the outcome gives.
 use mathlib.Core.Path.{◌≡◌, sym, ap, ap₂, subst, ◌∙◌}
 use mathlib.Core.Logic.{◌≢◌, ◌↔◌}
-use mathlib.Core.List.{List, [], ◌++◌, map, Memᴰ as Mem, Nodup, IsChain}
-use Prim.Native.Nat.{ℕ, ◌≤◌, ◌<◌}
+use mathlib.Core.List.{List, [], ◌∷◌, ◌++◌, map, Memᴰ as Mem, Nodup, IsChain}
+use Prim.Native.Nat.{ℕ, ◌^◌, ◌≤◌, ◌<◌}
 use native.Mathlib.Omega.{arith}
+use lib.Chars.{codes}
 use lib.ListN.{length, take, drop, get_or}
 use Rattle.order.specs.Order.{All, HoldsOne}
 use Rattle.paths.specs.Graph.{Graph, Episode, Link, SameLinks, Way, passing_threads, Cover, Apart, weight, Smallest, Heaviest, Width, Furthest, Rising, Loop}
@@ -16,12 +17,12 @@ use Rattle.paths.specs.OneVoice.{OneVoice}
 use Rattle.paths.specs.OneVoice as one
 use Rattle.paths.proofs.Theorems as graphs
 use Rattle.logs.specs.Words.{kind, number, word}
-use Rattle.logs.specs.Answer.{given, refused}
+use Rattle.logs.specs.Answer.{given, refused, reason_number}
 use Rattle.logs.specs.Content.{heard_graph, HeardOf, LeastPause, SameContent, longest_pause}
-use Rattle.logs.specs.Log.{questions, marks_of, voices_by, heard_from, content_of, graph_of, heard_count, voices_count, without_pauses}
+use Rattle.logs.specs.Log.{service, questions, marks_of, voices_by, heard_from, content_of, graph_of, heard_count, voices_count, without_pauses}
 use Rattle.logs.specs.Earlier.{Older}
 use Rattle.logs.specs.Earlier as earlier
-use Rattle.std.specs.Prelude.{Result}
+use Rattle.std.specs.Prelude.{Result, Ok, Err}
 use Rattle.logs.specs.declared.Ceilings.{Ceilings}
 use Rattle.logs.specs.declared.Refusal.{Refusal}
 use Rattle.logs.proofs.Asked.{then_given, given_then, then_refused}
@@ -44,11 +45,19 @@ use Rattle.trimming.proofs.TrimmedCopies as trimming
 use Rattle.report.specs.Report.{outcome_answer, asked, report_needs, cleared, Paired, Reported, LoopShown, Passes, Left}
 use Rattle.report.specs.Accepted.{Accepted, LentEnough}
 use Rattle.report.specs.declared.Outcome.{Outcome}
+use Rattle.report.specs.declared.Outcome.TheVariants.{Report, Loop as Looped, Refused}
 use Rattle.fair_copy.specs.Copied.{copy_answer, copy_asked, CopyLeft}
 use Rattle.fair_copy.proofs.Copied as copies
 use Rattle.trimmed_copy.specs.Trimmed.{trim_answer, TrimPasses, TrimLeft}
 use Rattle.trimmed_copy.proofs.Trimmed as trims
+use Rattle.input.specs.Input.{words_of}
+use Rattle.text.specs.Text.{report_text, refusal_text, loop_text, outcome_text}
+use Rattle.text.specs.ReadBack.{text_figures}
+use Rattle.text.specs.Printed.{text_bytes, whole_words, TextLeft}
+use Rattle.text.specs.declared.Printed.{Printed}
+use Rattle.text.proofs.ReadBack as reading
 use Rattle.promises.proofs.ThreadsLeft as threads
+use Rattle.promises.proofs.Texts as texts
 use Rattle.promises.proofs.SmallLogs as small
 use Rattle.promises.proofs.SmallLogs.{Right, rows, version_rows, voices_rows}
 use Rattle.report.proofs.Reported as calls
@@ -667,3 +676,72 @@ module _ (l l₂ : List ℕ) (episodes : (graph_of l).n ≡ (graph_of l₂).n) (
 
   pub more_voices_width : (j k : ℕ) → Width (graph_of l) j → Width (graph_of l₂) k → j ≤ k
   more_voices_width j k (ts, cover, smallest, size) (ts₂, cover₂, smallest₂, size₂) = omega (arith, smallest ts₂ (more_voices_covers ts₂ cover₂))
+
+-- 13. Of every text call: `TextLeft m b t o w t' o' w' r` is its contract; `b` are the bytes of a log, `t` is the text buffer at entry and `t'` at exit.
+module _ (m : Ceilings) (b t o w t' o' w' : List ℕ) (r : Result Printed Refusal) (left : TextLeft m b t o w t' o' w' r) where
+  -- A text is given exactly when the text buffer has 42,640 bytes. Else the refusal is 11 with these, and no buffer changes.
+  pub text_exactly : ((p : Printed) × (r ≡ Ok p)) ↔ (text_bytes ≤ length t)
+  text_exactly = texts.text_exactly m b t o w t' o' w' r left
+
+  pub text_refused : (e : Refusal) → r ≡ Err e → (reason_number e.reason ≡ 11) × (e.place ≡ text_bytes) × (t' ≡ t) × (o' ≡ o) × (w' ≡ w)
+  text_refused = texts.text_refused m b t o w t' o' w' r left
+
+-- A text that is given: the first `p.bytes` of the text buffer.
+module _ (m : Ceilings) (b t o w t' o' w' : List ℕ) (p : Printed) (left : TextLeft m b t o w t' o' w' (Ok p)) where
+  -- Where questions 14 and 15 refuse the bytes, that is the outcome, and neither the output nor a work word changes. Else the outcome and what is left in
+  -- both are those of a report call on the words of the bytes; so all that is promised of these holds.
+  pub text_bytes_refused : (q k : ℕ) → whole_words b ≡ refused q k → (p.outcome ≡ Refused q k) × (o' ≡ o) × (w' ≡ w)
+  text_bytes_refused = texts.text_refused_bytes m b t o w t' o' w' p left
+
+  pub text_call : (n : ℕ) → whole_words b ≡ given n → Left m (words_of b) o w o' w' p.outcome
+  text_call = texts.text_call m b t o w t' o' w' p left
+
+  -- The text is that of the outcome. Behind it the text buffer is unchanged. It is never empty.
+  pub text_words : (take p.bytes t' ≡ outcome_text (graph_of (words_of b)) o' p.outcome) × (t' ≡ take p.bytes t' ++ drop p.bytes t)
+  text_words = texts.text_part m b t o w t' o' w' p left
+
+  pub text_some : 0 < p.bytes
+  text_some = texts.text_some m b t o w t' o' w' p left
+
+  -- From the text of a report its figures are read back, line by line: n, the link count, the width, the apart set and the threads, and nothing else.
+  pub text_read : (c : ℕ) → p.outcome ≡ Report c
+      → text_figures (take p.bytes t')
+      ≡ ((graph_of (words_of b)).n ∷ []) ∷ (link_count (graph_of (words_of b)) ∷ []) ∷ (number (get_or (take c o') 0 0) ∷ [])
+      ∷ apart_of (take c o') ∷ threads_of (take c o')
+  text_read = texts.text_read m b t o w t' o' w' p left
+
+-- So two reports with the same text are the same: they have the same n, the same link count and the same words.
+pub text_settles : (m m₂ : Ceilings) (b t o w t' o' w' b₂ t₂ o₂ w₂ t₂' o₂' w₂' : List ℕ) (p p₂ : Printed) → TextLeft m b t o w t' o' w' (Ok p)
+    → TextLeft m₂ b₂ t₂ o₂ w₂ t₂' o₂' w₂' (Ok p₂) → (c c₂ : ℕ) → p.outcome ≡ Report c → p₂.outcome ≡ Report c₂
+    → take p.bytes t' ≡ take p₂.bytes t₂'
+    → ((graph_of (words_of b)).n ≡ (graph_of (words_of b₂)).n) × (link_count (graph_of (words_of b)) ≡ link_count (graph_of (words_of b₂)))
+    × (take c o' ≡ take c₂ o₂')
+text_settles = texts.same_text
+
+-- The text of a refusal gives its number and its place, and that of a loop its length and its episodes. `at` reads as a number too, always the same.
+pub refusal_read : (q p : ℕ) → q < 2 ^ 64 → p < 2 ^ 64 → text_figures (refusal_text q p) ≡ (q ∷ reading.at_read ∷ p ∷ []) ∷ []
+refusal_read = texts.refusal_read
+
+pub loop_read : (c : ℕ) (steps : List ℕ) → c < 2 ^ 64
+    → text_figures (loop_text c steps) ≡ (13 ∷ reading.at_read ∷ c ∷ []) ∷ map number steps ∷ []
+loop_read = reading.loop_read
+
+-- Every text fits 42,640 bytes: that of a report, of a loop, and of a refusal whose number and place are of 32 and 64 bits.
+pub text_fits : (l o w o' w' : List ℕ) (c : ℕ) → Left service l o w o' w' (Report c)
+    → length (report_text (graph_of l).n (link_count (graph_of l)) (take c o')) ≤ text_bytes
+text_fits = texts.report_text_fits
+
+pub loop_text_fits : (l o w o' w' : List ℕ) (c : ℕ) → Left service l o w o' w' (Looped c) → length (loop_text c (take c (drop 1 o'))) ≤ text_bytes
+loop_text_fits = texts.loop_text_fits
+
+pub refusal_text_fits : (q p : ℕ) → q < 2 ^ 32 → p < 2 ^ 64 → length (refusal_text q p) ≤ text_bytes
+refusal_text_fits = texts.refusal_text_fits
+
+-- The scope's whole example: its report's text is the scope's seven lines, and every call on its bytes whose buffers are long enough leaves them.
+pub whole_example : report_text 5 2 texts.example_report ≡ codes "episodes 5\nlinks 2\nwidth 3\napart 1 3 4\nthread 0 1\nthread 2 3\nthread 4\n"
+whole_example = texts.example_text
+
+pub whole_example_printed : (t o w t' o' w' : List ℕ) (p : Printed) → TextLeft service texts.example_bytes t o w t' o' w' (Ok p)
+    → LentEnough (words_of texts.example_bytes) (length o) (length w)
+    → take p.bytes t' ≡ codes "episodes 5\nlinks 2\nwidth 3\napart 1 3 4\nthread 0 1\nthread 2 3\nthread 4\n"
+whole_example_printed = texts.example_printed

@@ -1,7 +1,7 @@
 // The trials of the file stdin, a line for each: its parts, and the call that it asks for.
 ghost use Rattle.std.specs.Prelude.{◌≡◌, ◌≢◌, ◌<◌, ◌++◌, ◌∷◌, All, IfSome, MatchOption};
 
-use crate::show::{Asked, Call, Service, Trial};
+use crate::show::{Asked, Call, Lent, Service, Trial};
 use std::io;
 
 // The value of a hexadecimal digit, 0 to 9 or A to F.
@@ -64,19 +64,20 @@ fn number_before(text: &[u8]) -> Option<(usize, &[u8])> {
     Some((number(10, digits)?, rest))
 }
 
-// The call of a service whose lent words and name are `text`: LENT WORK NAME.
-fn call(service: Service, text: &[u8]) -> Option<(Asked, &[u8])> {
-    let (lent, rest) = number_before(text)?;
+// What is lent, and the name behind it: LENT WORK NAME.
+fn lent(text: &[u8]) -> Option<(Lent, &[u8])> {
+    let (out, rest) = number_before(text)?;
     let (work, name) = number_before(rest)?;
-    if 64 < lent || 16400 < work {
+    if 64 < out || 16400 < work {
         return None;
     }
-    let call = Call {
-        service,
-        lent,
-        work,
-    };
-    Some((Asked::Call(call), name))
+    Some((Lent { out, work }, name))
+}
+
+// The call of a service, with what is lent.
+fn call(service: Service, text: &[u8]) -> Option<(Asked, &[u8])> {
+    let (lent, name) = lent(text)?;
+    Some((Asked::Call(Call { service, lent }), name))
 }
 
 // What is asked before the colon of a line, and the name behind it.
@@ -89,6 +90,10 @@ fn asked_by(head: &[u8]) -> Option<(Asked, &[u8])> {
         b"report" => call(Service::Report, rest),
         b"copy" => call(Service::FairCopy, rest),
         b"trim" => call(Service::TrimmedCopy, rest),
+        b"text" => {
+            let (lent, name) = lent(rest)?;
+            Some((Asked::Text(lent), name))
+        }
         b"thread" => {
             let (i, name) = number_before(rest)?;
             Some((Asked::Thread(i), name))

@@ -5,6 +5,7 @@ ghost use Rattle.report.specs.declared.TheConstants.{REPORT_WORDS};
 use logs::{Kind, Numbers, Reading, Reason, Refusal};
 use report::{Outcome, REPORT_WORDS, WORK_WORDS};
 use std::{fmt, io};
+use text::Printed;
 
 // The services that write to a lent output.
 #[derive(Clone, Copy, PartialEq, Eq)]
@@ -25,13 +26,19 @@ impl fmt::Display for Service {
     }
 }
 
-// A call of a service with so many output words and so many work words lent.
+// So many output words and so many work words, which are lent to a call.
+#[derive(Clone, Copy)]
+pub struct Lent {
+    pub out: usize,
+    pub work: usize,
+    ghost within: { (out ≤ 64) × (work ≤ 16400) },
+}
+
+// A call of a service.
 #[derive(Clone, Copy)]
 pub struct Call {
     pub service: Service,
-    pub lent: usize,
-    pub work: usize,
-    ghost within: { (lent ≤ 64) × (work ≤ 16400) },
+    pub lent: Lent,
 }
 
 // What is asked for.
@@ -41,6 +48,8 @@ pub enum Asked {
     Links,
     Thread(usize),
     Call(Call),
+    // The text of the words' bytes.
+    Text(Lent),
     // The outcome alone, with buffers that are enough for every log.
     Outcome(Service),
 }
@@ -53,6 +62,7 @@ impl fmt::Display for Asked {
             Asked::Links => f.write_str("links of "),
             Asked::Thread(i) => write!(f, "thread {i} of "),
             Asked::Call(call) => write!(f, "{} ", call.service),
+            Asked::Text(_) => f.write_str("text of "),
             Asked::Outcome(service) => write!(f, "{service} "),
         }
     }
@@ -73,6 +83,10 @@ impl Trial<'_> {
         rt.write_all(self.name)?;
         print!(rt; ": ")?;
         self.answer(rt)?;
+        // A text ends its last line itself.
+        if matches!(self.asked, Asked::Text(_)) {
+            return Ok(());
+        }
         println!(rt)
     }
 
@@ -84,6 +98,7 @@ impl Trial<'_> {
             Asked::Links => links(rt, words),
             Asked::Thread(i) => print!(rt; "{}", Thread { report: words, i }),
             Asked::Call(call) => call.make(rt, words),
+            Asked::Text(lent) => text(rt, words, lent),
             Asked::Outcome(service) => outcome(rt, service, words),
         }
     }
@@ -260,10 +275,40 @@ impl Call {
         let outcome = ask(
             service,
             log,
-            &mut out[..self.lent],
-            &mut scratch[..self.work],
+            &mut out[..self.lent.out],
+            &mut scratch[..self.lent.work],
         );
         write_outcome(rt, service, outcome, &out, &scratch)
+    }
+}
+
+// The bytes of words, the lowest first, in `room`; none where they are more.
+fn bytes_of<'a>(words: &[u32], room: &'a mut [u8]) -> Option<&'a [u8]> {
+    let bytes = room.get_mut(..words.len().saturating_mul(4))?;
+    for (byte, value) in bytes
+        .iter_mut()
+        .zip(words.iter().flat_map(|w| w.to_le_bytes()))
+    {
+        *byte = value;
+    }
+    Some(bytes)
+}
+
+// The outcome of a text call and the count of its bytes, then the text; says so where the bytes behind it do not hold the mark.
+fn text(rt: &impl Print, words: &[u32], lent: Lent) -> io::Result<()> {
+    let mut room = [0u8; 256];
+    let log = bytes_of(words, &mut room).unwrap_or(&[]);
+    let mut text = [b'#'; text::TEXT_BYTES];
+    let mut out = [MARK; 64];
+    let mut work = [MARK; 16400];
+    match text::text(log, &mut text, &mut out[..lent.out], &mut work[..lent.work]) {
+        Ok(Printed { outcome, bytes }) => {
+            let (lines, behind) = text.split_at(bytes.min(text::TEXT_BYTES));
+            let strays = Strays(behind.iter().filter(|b| **b != b'#').count());
+            println!(rt; "{outcome}, {bytes} bytes{strays}")?;
+            rt.write_all(lines)
+        }
+        Err(refusal) => println!(rt; "{refusal}"),
     }
 }
 

@@ -54,7 +54,7 @@ pub length_loop : (c : List ℕ) → length (loop_words c) ≡ 1 + length c
 unfolding loop_words
 length_loop c = omega (arith, length-map c (word 7))
 
-length_report : (apart : List ℕ) (threads : List (List ℕ))
+pub length_report : (apart : List ℕ) (threads : List (List ℕ))
     → length (report_words apart threads) ≡ 1 + length apart + (length threads + total_steps threads) + 1
 unfolding report_words
 length_report apart threads =

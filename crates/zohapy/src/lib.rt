@@ -1,4 +1,4 @@
-// The six services for C and Rust: exported functions, which answer in plain numbers.
+// The seven services for C and Rust: exported functions, which answer in plain numbers.
 #![tactic(auto)]
 
 ghost use Rattle.std.specs.Prelude.{◌≡◌, ◌-◌};
@@ -7,10 +7,11 @@ ghost use Rattle.logs.specs.Log.{service, questions};
 ghost use Rattle.link_count.specs.Counted.{count_asked};
 ghost use Rattle.report.specs.Report.{outcome_answer};
 ghost use Rattle.threads.specs.Found.{found_number, found_stretch};
-ghost use Rattle.zohapy.specs.Exported.{read_numbers, numbers, Reports, Copies, Trims, Thread};
+ghost use Rattle.zohapy.specs.Exported.{read_numbers, numbers, printed_numbers, Reports, Copies, Trims, Thread, Texts};
 
 use logs::{Reading, Reason, Refusal};
 use report::Outcome;
+use text::Printed;
 use threads::Stretch;
 
 // A reading: number 0 with n and the count of to words, or a refusal's number and place. What is not given is 0.
@@ -38,6 +39,15 @@ pub struct ThreadAnswer {
     pub number: u32,
     pub start: usize,
     pub length: usize,
+}
+
+// A text: the numbers of its report, as `Answer` has them, and how many bytes it has. 0 where the text buffer is too short.
+#[repr(C)]
+#[derive(Clone, Copy)]
+pub struct TextAnswer {
+    pub number: u32,
+    pub value: usize,
+    pub bytes: usize,
 }
 
 impl From<Result<Reading, Refusal>> for ReadAnswer {
@@ -118,6 +128,22 @@ impl From<Result<Stretch, Refusal>> for ThreadAnswer {
     }
 }
 
+impl From<Result<Printed, Refusal>> for TextAnswer {
+    ghost from_gives = { λ r a. printed_numbers r ≡ (a.number, a.value, a.bytes) };
+
+    fn from(printed: Result<Printed, Refusal>) -> TextAnswer {
+        let (answer, bytes) = match printed {
+            Ok(printed) => (Answer::from(printed.outcome), printed.bytes),
+            Err(refusal) => (Answer::from(Err(refusal)), 0),
+        };
+        TextAnswer {
+            number: answer.number,
+            value: answer.value,
+            bytes,
+        }
+    }
+}
+
 // Questions 1 to 10, and 18 to 21.
 #[unsafe(no_mangle)]
 pub extern "C" fn zohapy_read(log: &[u32]) -> ReadAnswer
@@ -164,4 +190,17 @@ pub extern "C" fn zohapy_thread(report: &[u32], i: usize) -> ThreadAnswer
     ensures { Thread report.now i result.number result.start result.length }
 {
     ThreadAnswer::from(threads::find_thread(report, i))
+}
+
+// The text of a log's bytes: of their report, their loop or their refusal.
+#[unsafe(no_mangle)]
+pub extern "C" fn zohapy_text(
+    log: &[u8],
+    text: &mut [u8],
+    out: &mut [u32],
+    work: &mut [u32],
+) -> TextAnswer
+    ensures { Texts log.now text.old out.old work.old text.new out.new work.new result.number result.value result.bytes }
+{
+    TextAnswer::from(text::text(log, text, out, work))
 }

@@ -1,4 +1,4 @@
-//! The questions put to a log, to the lent buffers, to a report's words and to the program's bytes.
+//! The questions put to a log, to the lent buffers, to a report's words and to the bytes of a log.
 
 use crate::words::{APART, END, FROM, HEAD, LARGEST, MOST_VOICES, STEP, THREAD, TO, VOICES, WIDTH};
 use crate::words::{episode, episodes, kind, number, version, voices, word};
@@ -11,13 +11,17 @@ pub struct Refusal {
     pub place: usize,
 }
 
-/// The work words that a report or a copy needs.
+/// The work words that a report, a copy or a text needs.
 pub const WORK: usize = 16_384;
+
+/// The bytes that a text buffer needs.
+pub const TEXT: usize = 42_640;
 
 const LAST_VERSION: usize = 1;
 const MOST_EPISODES: usize = 200;
 const MOST_LINKS: usize = 4_096;
-const MOST_BYTES: usize = 33_256;
+/// The most bytes of a log.
+pub const MOST_BYTES: usize = 33_256;
 
 /// The most episodes of a log with a voices word.
 pub const MOST_WITH_VOICES: usize = 120;
@@ -124,6 +128,11 @@ pub fn lent(need: usize, out: usize, work: usize) -> Result<(), Refusal> {
     Ok(())
 }
 
+/// What is asked before all else where a text is wanted: whether the text buffer is long enough.
+pub fn text_lent(text: usize) -> Result<(), Refusal> {
+    if text < TEXT { no(11, TEXT) } else { Ok(()) }
+}
+
 /// How many apart words a whole report has, and where the steps of each of its threads stand: the place of the first step, and
 /// how many there are.
 pub struct Parts {
@@ -186,7 +195,7 @@ pub fn parts(words: &[u32]) -> Result<Parts, Refusal> {
     Ok(Parts { apart, threads })
 }
 
-/// Questions 14 and 15: the words of the program's input.
+/// Questions 14 and 15: the words of these bytes.
 pub fn bytes(input: &[u8]) -> Result<Vec<u32>, Refusal> {
     if input.len() > MOST_BYTES {
         return no(14, MOST_BYTES);

@@ -1,4 +1,4 @@
-//! A log with all that is expected of calls on it.
+//! A log with all that is expected of calls on it, and the bytes of one.
 
 use super::copies::{by_pairs, by_sorting, copy_words};
 use super::counting::{by_all_pairs, by_set};
@@ -7,8 +7,10 @@ use super::joining::by_least;
 use super::trimming::{by_search, by_threads, joined_without};
 use super::voicing::by_episodes;
 use super::{Graph, Reading, Refusal, in_order, noted, said};
+use super::{printing, questions};
+use crate::checkers::Shown;
 use crate::counts::{Links, LongPauses, Pauses, Voiced};
-use crate::words::{Noted, Said, older, version};
+use crate::words::{self, Noted, Said, older, version};
 use std::cell::OnceCell;
 
 pub struct Subject {
@@ -57,6 +59,28 @@ impl Subject {
     }
 }
 
+/// The bytes of a log, and the log, or the refusal 14 or 15 of the bytes.
+pub struct Input<'a> {
+    pub bytes: Vec<u8>,
+    pub log: Result<&'a Subject, Refusal>,
+}
+
+impl<'a> Input<'a> {
+    /// The bytes of this log.
+    pub fn of(log: &'a Subject) -> Input<'a> {
+        Input::new(words::bytes(&log.words), log)
+    }
+
+    /// These bytes, which are refused or those of the log.
+    pub fn new(bytes: Vec<u8>, log: &'a Subject) -> Input<'a> {
+        let read = questions::bytes(&bytes).map(|words| {
+            assert!(words == log.words, "the bytes are those of the log");
+            log
+        });
+        Input { bytes, log: read }
+    }
+}
+
 impl Passed {
     fn has_loop(&self) -> bool {
         *self.has_loop.get_or_init(|| self.graph.has_loop())
@@ -70,6 +94,12 @@ impl Passed {
     /// The link count.
     pub fn link_count(&self) -> usize {
         *self.count.get_or_init(|| link_count(self.version, self.graph.n, &self.noted))
+    }
+
+    /// The text of a log without loops, whose furthest apart set this is, with these threads.
+    pub fn text(&self, furthest: &[usize], threads: Vec<Vec<usize>>) -> String {
+        let shown = Shown { width: self.graph.weight(furthest), apart: furthest.to_vec(), threads };
+        printing::report_text(self.graph.n, self.link_count(), &shown)
     }
 
     /// The fair copy.
