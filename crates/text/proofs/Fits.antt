@@ -53,11 +53,14 @@ module _ (l o w o' w' : List ℕ) (c : ℕ) (d : ReportLeft service l o w o' w' 
   members : length (apart_of ws) ≤ g.n
   members = different_below g.n (apart_of ws) d.reported.furthest.apart.antichain.once d.reported.furthest.apart.episodes
 
-  few : length (threads_of ws) ≤ 400
-  few =
-      let two : weight g (apart_of ws) ≤ length (apart_of ws) + length (apart_of ws) =
-      weight_few g (apart_of ws) (λ v h. voices_few service l g.n (heard_count l) read v h) d.reported.furthest.apart.episodes in
-      omega (arith, two, members, episodes, d.reported.paired.same)
+  -- at most two for each member
+  two : length (threads_of ws) ≤ length (apart_of ws) + length (apart_of ws)
+  two =
+      omega (
+        arith,
+        d.reported.paired.same,
+        weight_few g (apart_of ws) (λ v h. voices_few service l g.n (heard_count l) read v h) d.reported.furthest.apart.episodes,
+      )
 
   count : length (report_words (apart_of ws) (threads_of ws)) ≡ c
   count = sym (ap length d.words) ∙ d.count
@@ -76,9 +79,7 @@ module _ (l o w o' w' : List ℕ) (c : ℕ) (d : ReportLeft service l o w o' w' 
           omega (arith, rw e at need, need_few g.n episodes, members, one, d.reported.paired.same, episodes)
       go (suc v) e =
           let most : g.n ≤ 120 = voices_most service l g.n (heard_count l) read (omega (arith, e)) in
-          let two : weight g (apart_of ws) ≤ length (apart_of ws) + length (apart_of ws) =
-          weight_few g (apart_of ws) (λ v h. voices_few service l g.n (heard_count l) read v h) d.reported.furthest.apart.episodes in
-          omega (arith, rw e at need, need_with_voices g.n v most, members, two, d.reported.paired.same, most)
+          omega (arith, rw e at need, need_with_voices g.n v most, members, two, most)
 
   pub report_fits : length (report_text g.n (link_count g) ws) ≤ text_bytes
   report_fits =
@@ -86,7 +87,8 @@ module _ (l o w o' w' : List ℕ) (c : ℕ) (d : ReportLeft service l o w o' w' 
         arith,
         bytes,
         d.count,
-        report_length g.n (link_count g) ws (apart_of ws) (threads_of ws) (omega (arith, episodes)) (omega (arith, links)) (omega (arith, few))
+        report_length g.n (link_count g) ws (apart_of ws) (threads_of ws) (omega (arith, episodes)) (omega (arith, links))
+            (omega (arith, two, members, episodes))
             (λ v m. let h : v < g.n = d.reported.furthest.apart.episodes v m in omega (arith, episodes, h))
             (λ t m v i. let h : v < g.n = (d.reported.cover.threads t m).episodes v i in omega (arith, episodes, h))
             refl refl width (ap length d.words),
@@ -94,20 +96,13 @@ module _ (l o w o' w' : List ℕ) (c : ℕ) (d : ReportLeft service l o w o' w' 
 
 -- of a loop
 module _ (l o w o' w' : List ℕ) (c : ℕ) (d : LoopLeft service l o w o' w' c) where
-  loop_episodes : length d.loop ≤ 200
-  loop_episodes =
-      let read = (asked_given service report_needs l (length o) (length w) (graph_of l).n (heard_count l) d.passes).0 in
-      omega (
-        arith,
-        different_below (graph_of l).n d.loop d.shown.loop.once d.shown.loop.episodes,
-        few_episodes service l (graph_of l).n (heard_count l) read,
-      )
+  loop_below : (graph_of l).n ≤ 200
+  loop_below =
+      few_episodes service l (graph_of l).n (heard_count l)
+      (asked_given service report_needs l (length o) (length w) (graph_of l).n (heard_count l) d.passes).0
 
   small : All (λ v. v < 1000) d.loop
-  small v m =
-      let read = (asked_given service report_needs l (length o) (length w) (graph_of l).n (heard_count l) d.passes).0 in
-      let h : v < (graph_of l).n = d.shown.loop.episodes v m in
-      omega (arith, few_episodes service l (graph_of l).n (heard_count l) read)
+  small v m = let h : v < (graph_of l).n = d.shown.loop.episodes v m in omega (arith, loop_below)
 
   steps : map number (take c (drop 1 o')) ≡ d.loop
   unfolding loop_words
@@ -118,9 +113,11 @@ module _ (l o w o' w' : List ℕ) (c : ℕ) (d : LoopLeft service l o w o' w' c)
 
   pub loop_fits : length (loop_text c (take c (drop 1 o'))) ≤ text_bytes
   loop_fits =
+      let short : length d.loop ≤ (graph_of l).n = different_below (graph_of l).n d.loop d.shown.loop.once d.shown.loop.episodes in
       omega (
         arith,
-        loop_length c (take c (drop 1 o')) d.loop (omega (arith, loop_episodes, d.count)) small steps d.count,
-        loop_episodes,
+        loop_length c (take c (drop 1 o')) d.loop (omega (arith, short, loop_below, d.count)) small steps d.count,
+        short,
+        loop_below,
         d.count,
       )

@@ -14,6 +14,7 @@ use Rattle.writing.specs.Layout.{apart_of, threads_of}
 use Rattle.writing.proofs.Buffers.{lent_part}
 use Rattle.text.specs.Text.{figure, figures, line, thread_lines}
 
+-- an apart word, and a thread's word, in front of others
 apart_cons : (w : ℕ) (ws : List ℕ) → eqb (kind w) 5 ≡ true → apart_of (w ∷ ws) ≡ number w ∷ apart_of ws
 unfolding apart_of
 apart_cons w ws five = rw (five, apart_of) refl

@@ -19,7 +19,11 @@ module _ {ws t t' : List ℕ} {r : ℕ} (p : Put ws t t' r) where
 
   -- one byte more
   pub put_byte : (b : ℕ) → r < length t' → Put (ws ++ b ∷ []) t (set t' r b) (r + 1)
-  put_byte b room = record { size = omega (arith, p.size, length_snoc ws b); words = begins_more ws t t' p.words r b p.size (omega (arith, put_length, room)) }
+  put_byte b room =
+      record {
+        size = omega (arith, p.size, length_snoc ws b);
+        words = begins_more ws t t' p.words r b p.size (omega (arith, put_length, room));
+      }
 
   -- other bytes behind them
   pub put_behind : {vs q : List ℕ} {s : ℕ} → Put vs (drop r t') q s → Put (ws ++ vs) t (take r t' ++ q) (r + s)
@@ -67,16 +71,7 @@ pub put_both : {a b t t₁ t₂ : List ℕ} {i j : ℕ} → Put a t t₁ i → P
     → Put (a ++ b) t (take i t₁ ++ (t₂ ++ drop (length t₁ - i) (drop i t₁))) (i + j)
 put_both {t₁ = t₁} {t₂ = t₂} {i = i} p q = rw (lent_rest t₁ t₂ i) (put_behind p (rw (lent_part t₁ i) at q))
 
--- there is room for what is in front, and in the part that is lent for what is behind
-pub room_front : (a b : List ℕ) {k : ℕ} → length (a ++ b) ≤ k → length a ≤ k
-room_front a b room = omega (arith, room, length-append a b)
-
-pub room_behind : {a t t₁ : List ℕ} {i : ℕ} → Put a t t₁ i → (b : List ℕ) → length (a ++ b) ≤ length t
-    → length b ≤ length (take (length t₁ - i) (drop i t₁))
-room_behind {a} {t} {t₁} {i} p b room =
-    rw (lent_part t₁ i) (omega (arith, room, length-append a b, put_length p, p.size, length-drop i t₁))
-
--- and a byte behind them
+-- and a byte behind both
 pub put_ended : {a b t t₁ t₂ : List ℕ} {i j : ℕ} (c : ℕ) → Put a t t₁ i → Put b (take (length t₁ - i) (drop i t₁)) t₂ j
     → length (a ++ b ++ c ∷ []) ≤ length t
     → Put (a ++ b ++ c ∷ []) t (set (take i t₁ ++ (t₂ ++ drop (length t₁ - i) (drop i t₁))) (i + j) c) (i + j + 1)
@@ -85,6 +80,15 @@ put_ended {a} {b} {t} {t₁} {t₂} {i} {j} c p q room =
     let same : length (take i t₁ ++ (t₂ ++ drop (length t₁ - i) (drop i t₁))) ≡ length t = put_length all in
     let size : i + j ≡ length (a ++ b) = all.size in
     put_byte all c (omega (arith, length_snoc (a ++ b) c, same, size, room))
+
+-- there is room for what is in front, and in the part that is lent for what is behind
+pub room_front : (a b : List ℕ) {k : ℕ} → length (a ++ b) ≤ k → length a ≤ k
+room_front a b room = omega (arith, room, length-append a b)
+
+pub room_behind : {a t t₁ : List ℕ} {i : ℕ} → Put a t t₁ i → (b : List ℕ) → length (a ++ b) ≤ length t
+    → length b ≤ length (take (length t₁ - i) (drop i t₁))
+room_behind {a} {t} {t₁} {i} p b room =
+    rw (lent_part t₁ i) (omega (arith, room, length-append a b, put_length p, p.size, length-drop i t₁))
 
 -- A number's last digit, behind the digits before it.
 pub record Front (n : ℕ) (t t' : List ℕ) (r : ℕ) : Type 0 where
