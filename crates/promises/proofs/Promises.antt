@@ -58,6 +58,7 @@ use Rattle.text.specs.declared.Printed.{Printed}
 use Rattle.text.proofs.ReadBack as reading
 use Rattle.promises.proofs.ThreadsLeft as threads
 use Rattle.promises.proofs.Texts as texts
+use Rattle.text.proofs.Laws as calls_of_text
 use Rattle.promises.proofs.SmallLogs as small
 use Rattle.promises.proofs.SmallLogs.{Right, rows, version_rows, voices_rows}
 use Rattle.report.proofs.Reported as calls
@@ -681,10 +682,10 @@ module _ (l l₂ : List ℕ) (episodes : (graph_of l).n ≡ (graph_of l₂).n) (
 module _ (m : Ceilings) (b t o w t' o' w' : List ℕ) (r : Result Printed Refusal) (left : TextLeft m b t o w t' o' w' r) where
   -- A text is given exactly when the text buffer has 42,640 bytes. Else the refusal is 11 with these, and no buffer changes.
   pub text_exactly : ((p : Printed) × (r ≡ Ok p)) ↔ (text_bytes ≤ length t)
-  text_exactly = texts.text_exactly m b t o w t' o' w' r left
+  text_exactly = calls_of_text.text_exactly m b t o w t' o' w' r left
 
   pub text_refused : (e : Refusal) → r ≡ Err e → (reason_number e.reason ≡ 11) × (e.place ≡ text_bytes) × (t' ≡ t) × (o' ≡ o) × (w' ≡ w)
-  text_refused = texts.text_refused m b t o w t' o' w' r left
+  text_refused = calls_of_text.text_refused m b t o w t' o' w' r left
 
 -- A text that is given: the first `p.bytes` of the text buffer.
 module _ (m : Ceilings) (b t o w t' o' w' : List ℕ) (p : Printed) (left : TextLeft m b t o w t' o' w' (Ok p)) where

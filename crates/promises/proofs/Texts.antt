@@ -1,6 +1,5 @@
 -- What a text call leaves, told by its outcome: the text, and the figures that are read back from it.
 use mathlib.Core.Path.{◌≡◌, refl, sym, ap, ap₂, subst, ◌∙◌}
-use mathlib.Core.Logic.{◌↔◌}
 use mathlib.Core.List.{List, [], ◌∷◌, ◌++◌, append-nil}
 use mathlib.Core.List.Memᴰ.{head as here, tail as there}
 use Prim.Native.Nat.{ℕ, ◌^◌, ◌≤◌, ◌<◌}
@@ -8,16 +7,15 @@ use native.Mathlib.Omega.{arith}
 use lib.Chars.{codes}
 use lib.ListN.{length, take, drop, get_or}
 use Rattle.std.specs.Fmt.{digits}
-use Rattle.std.specs.Prelude.{Result, Ok, Err}
+use Rattle.std.specs.Prelude.{Ok}
 use Rattle.paths.specs.Graph.{Graph}
 use Rattle.paths.specs.Links.{link_count}
 use Rattle.paths.proofs.Theorems.{count_few}
 use Rattle.logs.specs.Words.{number}
-use Rattle.logs.specs.Answer.{Answer, given, refused, reason_number}
+use Rattle.logs.specs.Answer.{Answer, given, refused}
 use Rattle.logs.specs.Log.{service, graph_of, heard_count}
 use Rattle.logs.proofs.Asked.{not_both}
 use Rattle.logs.specs.declared.Ceilings.{Ceilings}
-use Rattle.logs.specs.declared.Refusal.{Refusal}
 use Rattle.logs.proofs.Laws.{graph_links_few, words_small}
 use Rattle.writing.specs.Layout.{report_words, apart_of, threads_of}
 use Rattle.writing.proofs.Buffers.{begins_words}
@@ -58,22 +56,6 @@ called_report m b o w o' w' c (refused q p) called = absurd (not_refused called.
   where
     not_refused : Report c ≡ Refused q p → ⊥
     not_refused e = let none : ◌≡◌ {A = ℕ} 0 1 = cc in omega arith
-
-module _ (m : Ceilings) (b t o w t' o' w' : List ℕ) where
-  pub text_exactly : (r : Result Printed Refusal) → TextLeft m b t o w t' o' w' r → ((p : Printed) × (r ≡ Ok p)) ↔ (text_bytes ≤ length t)
-  unfolding TextLeft
-  text_exactly (Ok p) left = (λ given. left.0, λ enough. (p, refl))
-  text_exactly (Err e) left =
-      let short = left.0 in
-      (λ (p, none). absurd (not_ok p none), λ enough. absurd (omega (arith, short, enough)))
-    where
-      not_ok : (p : Printed) → ◌≡◌ {A = Result Printed Refusal} (Err e) (Ok p) → ⊥
-      not_ok p same = let none : ◌≡◌ {A = ℕ} 0 1 = cc in omega arith
-
-  pub text_refused : (r : Result Printed Refusal) → TextLeft m b t o w t' o' w' r → (e : Refusal) → r ≡ Err e
-      → (reason_number e.reason ≡ 11) × (e.place ≡ text_bytes) × (t' ≡ t) × (o' ≡ o) × (w' ≡ w)
-  unfolding TextLeft
-  text_refused r left e is = let (short, reason, place, text, out, work) = rw is at left in (reason, place, text, out, work)
 
 module _ (m : Ceilings) (b t o w t' o' w' : List ℕ) (p : Printed) (left : TextLeft m b t o w t' o' w' (Ok p)) where
   pub text_part : (take p.bytes t' ≡ outcome_text (graph_of (words_of b)) o' p.outcome) × (t' ≡ take p.bytes t' ++ drop p.bytes t)

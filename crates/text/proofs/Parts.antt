@@ -8,20 +8,14 @@ use lib.Chars.{codes}
 use lib.Dec.{eqb}
 use lib.ListN.{length, get_or, take, drop, drop_of_length-le}
 use lib.Seq.{drop-cons}
+use borrow.Author.Tests.{eqb-true}
+use Rattle.std.proofs.lemmas.Bool.{eqb-false}
 use Rattle.std.proofs.lemmas.List.{take_min}
 use Rattle.logs.specs.Words.{kind, number}
 use Rattle.writing.specs.Layout.{apart_of, threads_of}
 use Rattle.writing.proofs.Buffers.{lent_part}
+use Rattle.writing.proofs.Layouts.{apart_of_five, apart_of_other, threads_of_six, threads_of_other}
 use Rattle.text.specs.Text.{figure, figures, line, thread_lines}
-
--- an apart word, and a thread's word, in front of others
-apart_cons : (w : ℕ) (ws : List ℕ) → eqb (kind w) 5 ≡ true → apart_of (w ∷ ws) ≡ number w ∷ apart_of ws
-unfolding apart_of
-apart_cons w ws five = rw (five, apart_of) refl
-
-threads_cons : (w : ℕ) (ws : List ℕ) → eqb (kind w) 6 ≡ true → threads_of (w ∷ ws) ≡ map number (take (number w) ws) ∷ threads_of ws
-unfolding threads_of
-threads_cons w ws six = rw (six, threads_of) refl
 
 module _ (ws : List ℕ) (i : ℕ) (lt : i < length ws) where
   first : drop i ws ≡ get_or ws i 0 ∷ drop (i + 1) ws
@@ -35,20 +29,18 @@ module _ (ws : List ℕ) (i : ℕ) (lt : i < length ws) where
   -- the numbers of apart words alone
   pub apart_first : (n : ℕ) → eqb (kind (get_or ws i 0)) 5 ≡ true → n ≡ number (get_or ws i 0)
       → figures (apart_of (drop i ws)) ≡ figure n ++ figures (apart_of (drop (i + 1) ws))
-  apart_first n five e = rw (first, e) (ap figures (apart_cons (get_or ws i 0) (drop (i + 1) ws) five))
+  apart_first n five e = rw (first, e) (ap figures (apart_of_five (get_or ws i 0) (drop (i + 1) ws) (eqb-true (kind (get_or ws i 0)) 5 five)))
 
   pub apart_other : eqb (kind (get_or ws i 0)) 5 ≡ false → apart_of (drop i ws) ≡ apart_of (drop (i + 1) ws)
-  unfolding apart_of
-  apart_other other = rw first (rw (other, apart_of) refl)
+  apart_other other = rw first (apart_of_other (get_or ws i 0) (drop (i + 1) ws) (eqb-false (kind (get_or ws i 0)) 5 other))
 
   -- a line for each thread word
   pub thread_first : (steps : List ℕ) → eqb (kind (get_or ws i 0)) 6 ≡ true → steps ≡ take (number (get_or ws i 0)) (drop (i + 1) ws)
       → thread_lines (threads_of (drop i ws)) ≡ line (codes "thread") (map number steps) ++ thread_lines (threads_of (drop (i + 1) ws))
-  thread_first steps six e = rw (first, e) (ap thread_lines (threads_cons (get_or ws i 0) (drop (i + 1) ws) six))
+  thread_first steps six e = rw (first, e) (ap thread_lines (threads_of_six (get_or ws i 0) (drop (i + 1) ws) (eqb-true (kind (get_or ws i 0)) 6 six)))
 
   pub thread_other : eqb (kind (get_or ws i 0)) 6 ≡ false → threads_of (drop i ws) ≡ threads_of (drop (i + 1) ws)
-  unfolding threads_of
-  thread_other other = rw first (rw (other, threads_of) refl)
+  thread_other other = rw first (threads_of_other (get_or ws i 0) (drop (i + 1) ws) (eqb-false (kind (get_or ws i 0)) 6 other))
 
 -- no words are left
 module _ (ws : List ℕ) (i : ℕ) (le : length ws ≤ i) where

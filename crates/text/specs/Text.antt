@@ -11,6 +11,7 @@ use Rattle.report.specs.declared.Outcome.TheVariants.{Report, Loop as Looped, Re
 abbrev pub figure : ℕ → List ℕ
 figure n = codes " " ++ decimal n
 
+-- figures, one behind the other
 abbrev pub figures : List ℕ → List ℕ
 figures = flat_map figure
 

@@ -81,19 +81,19 @@ unfolding report_words ended
 report_head apart threads = refl
 
 -- One word more in front of those that are read.
-apart_of_five : (w : ℕ) (ws : List ℕ) → kind w ≡ 5 → apart_of (w ∷ ws) ≡ number w ∷ apart_of ws
+pub apart_of_five : (w : ℕ) (ws : List ℕ) → kind w ≡ 5 → apart_of (w ∷ ws) ≡ number w ∷ apart_of ws
 unfolding apart_of
 apart_of_five w ws e = rw (eq-eqb (kind w) 5 e, apart_of)
 
-apart_of_other : (w : ℕ) (ws : List ℕ) → kind w ≢ 5 → apart_of (w ∷ ws) ≡ apart_of ws
+pub apart_of_other : (w : ℕ) (ws : List ℕ) → kind w ≢ 5 → apart_of (w ∷ ws) ≡ apart_of ws
 unfolding apart_of
 apart_of_other w ws ne = rw (ne_eqb (kind w) 5 ne, apart_of)
 
-threads_of_six : (w : ℕ) (ws : List ℕ) → kind w ≡ 6 → threads_of (w ∷ ws) ≡ map number (take (number w) ws) ∷ threads_of ws
+pub threads_of_six : (w : ℕ) (ws : List ℕ) → kind w ≡ 6 → threads_of (w ∷ ws) ≡ map number (take (number w) ws) ∷ threads_of ws
 unfolding threads_of
 threads_of_six w ws e = rw (eq-eqb (kind w) 6 e, threads_of)
 
-threads_of_other : (w : ℕ) (ws : List ℕ) → kind w ≢ 6 → threads_of (w ∷ ws) ≡ threads_of ws
+pub threads_of_other : (w : ℕ) (ws : List ℕ) → kind w ≢ 6 → threads_of (w ∷ ws) ≡ threads_of ws
 unfolding threads_of
 threads_of_other w ws ne = rw (ne_eqb (kind w) 6 ne, threads_of)
 
