@@ -25,7 +25,7 @@ extern "C" {
 #endif
 
 /* The version of the library. */
-#define ZOHAPY_VERSION "0.8.0"
+#define ZOHAPY_VERSION "0.9.0"
 
 /* The work words that a report, a copy or a text needs. */
 #define ZOHAPY_WORK_WORDS 16384

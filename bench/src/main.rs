@@ -1,7 +1,8 @@
 //! Measures the library beside a plain program.
 //!
 //! - `measurements times [ROUNDS]` checks the answers of both programs, and prints tables of times;
-//! - `measurements call PROGRAM LOG` makes one call, for a count of its instructions.
+//! - `measurements call PROGRAM LOG` makes one call, for a count of its instructions;
+//! - `measurements week FOLDER COUNT` writes so many logs of full size to a folder, the shapes in turn.
 //!
 //! And an older build of the library beside a newer one, each a shared object:
 //!
@@ -57,11 +58,21 @@ fn call(program: &str, log: &[u32]) -> Option<()> {
     Some(())
 }
 
+/// Writes logs of full size to a new folder: the shapes with 200 episodes and 4,096 to words in turn.
+fn write_week(folder: &str, count: usize) -> std::io::Result<()> {
+    std::fs::create_dir(folder)?;
+    let full =
+        shapes::all().into_iter().filter(|shape| zohapy::links(&shape.log).is_ok_and(|links| links.len() == shapes::WORDS));
+    let logs: Vec<Vec<u8>> = full.map(|shape| zohapy::bytes_from_words(&shape.log)).collect();
+    (0..count).try_for_each(|i| std::fs::write(format!("{folder}/{i:05}.log"), &logs[i % logs.len()]))
+}
+
 fn run(words: &[&str]) -> Option<()> {
     match words {
         ["times"] => times::print(3001),
         ["times", rounds] => times::print(rounds.parse().ok()?),
         ["call", program, key] => call(program, &log_named(key)?)?,
+        ["week", folder, count] => write_week(folder, count.parse().ok()?).expect("the logs can be written"),
         ["beside", _, _, ..] if words.len() % 2 == 1 => beside::print(&words[1..]),
         ["logs", old, new] => beside::print_keys(old, new),
         ["called", library, service, key] => beside::call(library, service, key)?,
@@ -74,7 +85,7 @@ fn main() {
     let words: Vec<String> = std::env::args().skip(1).collect();
     let words: Vec<&str> = words.iter().map(String::as_str).collect();
     if run(&words).is_none() {
-        eprintln!("measurements times [ROUNDS] | measurements call PROGRAM LOG");
+        eprintln!("measurements times [ROUNDS] | measurements call PROGRAM LOG | measurements week FOLDER COUNT");
         eprintln!("PROGRAM: read report fair-copy trimmed-copy links plain-report plain-trimmed-copy plain-links");
         eprintln!("measurements beside OLD NEW [OLD NEW ..] | measurements logs OLD NEW");
         eprintln!("measurements called LIBRARY SERVICE LOG");

@@ -115,8 +115,14 @@ fn compare(input: &[u8], text: &str, wrapped: &Result<Report, Failure>) -> Resul
     }
 }
 
-/// Runs the program on an input that is written in pieces of at most `piece` bytes.
-fn printed(path: &str, input: &[u8], piece: usize, pause: bool) -> Result<String, String> {
+/// Compares the program's exit status with that of an answer: 0 after a report, 1 after a refusal.
+fn judge_status(number: u32, status: i32) -> Result<(), String> {
+    let due = i32::from(number > 0);
+    if status == due { Ok(()) } else { Err(format!("exit status {status} instead of {due}")) }
+}
+
+/// Runs the program on an input that is written in pieces of at most `piece` bytes. What it printed and its exit status come back.
+fn printed(path: &str, input: &[u8], piece: usize, pause: bool) -> Result<(String, i32), String> {
     let mut child = Command::new(path)
         .stdin(Stdio::piped())
         .stdout(Stdio::piped())
@@ -140,10 +146,8 @@ fn printed(path: &str, input: &[u8], piece: usize, pause: bool) -> Result<String
     });
     let status = child.wait().map_err(|error| error.to_string())?;
     read.map_err(|error| error.to_string())?;
-    if status.code().is_none() {
-        return Err(format!("the program was ended by a signal: {status}"));
-    }
-    String::from_utf8(text).map_err(|_| "the text is not in UTF-8".into())
+    let status = status.code().ok_or(format!("the program was ended by a signal: {status}"))?;
+    Ok((String::from_utf8(text).map_err(|_| "the text is not in UTF-8")?, status))
 }
 
 /// An input for the program.
@@ -204,8 +208,9 @@ pub fn check(path: &str, seed: u64) -> bool {
         uncounted += usize::from(wrapped.as_ref().is_ok_and(|report| report.links < links_heard(&input)));
         voiced += usize::from(wrapped.as_ref().is_ok_and(|report| report.apart.len() < report.threads.len()));
         let judged = judge_wrapped(&input, &wrapped);
-        let judged = judged.and_then(|_| printed(path, &input, piece, pause)).and_then(|text| {
+        let judged = judged.and_then(|_| printed(path, &input, piece, pause)).and_then(|(text, status)| {
             let number = judge(&input, &text)?;
+            judge_status(number, status)?;
             compare(&input, &text, &wrapped).map(|()| number)
         });
         match judged {
@@ -332,6 +337,12 @@ pub fn faults(wrapper: bool) -> bool {
         let altered = |input, text: &String| Some(alter(text.clone(), input)).filter(|other| other != text);
         let tried = inputs.iter().zip(&texts).filter_map(|(input, text)| Some(judge(input, &altered(input, text)?)));
         good &= all_refused(name, tried.collect());
+    }
+    let statuses = [("exit status 0 after a refusal", 0), ("exit status 1 after a report", 1), ("exit status 2", 2)];
+    for (name, status) in statuses {
+        let numbers = inputs.iter().zip(&texts).filter_map(|(input, text)| judge(input, text).ok());
+        let other = numbers.filter(|number| i32::from(*number > 0) != status);
+        good &= all_refused(name, other.map(|number| judge_status(number, status).map(|()| number)).collect());
     }
     let counts: [(&str, Counting); 2] = [("to words for links", to_words), ("links that do not count in links", links_heard)];
     for (name, count) in counts.into_iter().filter(|_| wrapper) {

@@ -2,6 +2,7 @@
 //! `episodes N`, a line `voices E C` for each voices word, E being its episode and C its voices, then a line `A-B` or `A-B M` for
 //! each link, M being its pause in minutes. What is given again is kept again.
 
+use std::collections::BTreeMap;
 use std::fmt;
 
 use zohapy::{Link, Mark, Refusal, head_episodes, head_version, head_word, links, marks, to_word, voices_word};
@@ -94,6 +95,16 @@ impl Log {
     /// The voices of an episode: those of its mark, 1 where it has none.
     pub fn voices(&self, episode: u32) -> u32 {
         self.marks.iter().find(|mark| mark.episode == episode).map_or(1, |mark| mark.voices)
+    }
+
+    /// The different links with their least pauses, rising.
+    pub fn least_pauses(&self) -> BTreeMap<(u32, u32), u32> {
+        let mut least = BTreeMap::new();
+        for &Link { from, to, pause } in &self.links {
+            let least = least.entry((from, to)).or_insert(pause);
+            *least = pause.min(*least);
+        }
+        least
     }
 
     /// The words of the log. Links that follow each other and leave the same episode share a from word.

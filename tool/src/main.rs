@@ -1,16 +1,24 @@
-//! Text forms, pictures and trimmed copies of logs.
+//! Text forms, pictures, trimmed copies and explanations of logs, and tables of many.
 
+mod answer;
+mod explain;
 mod log;
+mod page;
 mod picture;
 #[cfg(test)]
 mod random;
+mod table;
+mod week;
+mod wording;
 
 use std::ffi::OsString;
 use std::fs::File;
-use std::io::{Read, Write};
+use std::io::{BufWriter, Read, Write};
 use std::process::ExitCode;
 
+use answer::{Answer, Buffers};
 use log::Log;
+use week::Entry;
 use zohapy::{
     Failure, LOG_BYTES, Refusal, Report, TrimOutcome, VERSION, WORK_WORDS, bytes_from_words, copy_words_with_voices, marks,
     number, read, trimmed_copy, words_from_bytes,
@@ -18,15 +26,20 @@ use zohapy::{
 
 const USAGE: &str = "\
 usage: zohapy-tool COMMAND [FILE]
+       zohapy-tool table|page PATH...
 
   bytes       from the text form of a log, its bytes
   text        from the bytes of a log, its text form
   picture     from the bytes of a log, an SVG picture of its report, or of its loop
   trim        from the bytes of a log, the bytes of its trimmed copy
+  explain     from the bytes of a log, why its number is what it is, or what is wrong with it
+  table       of many logs, a table in CSV: the figures of each, its refusal or its loop
+  page        of many logs, an HTML page: the table, and behind each row its picture or its explanation
   --version   the version
   --help      this text
 
-Without FILE, or where it is -, standard input is read. The answer goes to standard output.
+Without FILE, or where it is -, standard input is read. The answer goes to standard output. A PATH is a log, or a folder, in which all
+files that end in .log are looked for.
 
 The text form has a line `version V` unless the version is 0, a line `episodes N`, a line `voices E C` for each voices word, which
 gives the episode E C voices, then a line for each link, again where it is given again: `A-B`, or `A-B M` with its pause of M
@@ -37,7 +50,8 @@ circle, and a door, of none, an open circle. The trimmed copy has the voices and
 other path of such links leads from A to B, in version 0 and without pauses. A log with a loop has none: `trim` refuses it and prints
 the loop too.
 
-exit status: 0; 1 where the log is refused, with `refused N at P` on standard error; 2 on any other trouble.
+exit status: 0; 1 where the log is refused, with `refused N at P` on standard error; 2 on any other trouble. `explain` gives 1 too, and
+its answer. `table` and `page` give 1 where a file could not be read, and 0 else, since a refusal is an answer there.
 ";
 
 /// Why there is no answer: the exit status and the message.
@@ -66,39 +80,87 @@ fn other(message: impl ToString) -> Trouble {
 
 fn main() -> ExitCode {
     let arguments: Vec<OsString> = std::env::args_os().skip(1).collect();
-    let answer = run(&arguments);
-    match answer.and_then(|bytes| std::io::stdout().write_all(&bytes).map_err(other)) {
-        Ok(()) => ExitCode::SUCCESS,
-        Err(trouble) => {
-            eprintln!("{}", trouble.message.trim_end());
-            ExitCode::from(trouble.status)
+    let mut out = BufWriter::new(std::io::stdout());
+    let done = run(&arguments, &mut out).and_then(|status| out.flush().map(|()| status).map_err(other));
+    ExitCode::from(done.unwrap_or_else(|trouble| {
+        eprintln!("{}", trouble.message.trim_end());
+        trouble.status
+    }))
+}
+
+/// Does what the arguments ask for. What is asked for goes to `out`; the answer is the exit status.
+fn run(arguments: &[OsString], out: &mut dyn Write) -> Result<u8, Trouble> {
+    let (command, named) = arguments.split_first().ok_or_else(|| other(USAGE))?;
+    match command.to_str() {
+        Some("table") => many(named, table::HEADING, table_line, |_| String::new(), out),
+        Some("page") => many(named, &page::head(), page_row, page::tail, out),
+        command => {
+            let (answer, status) = one(command.unwrap_or_default(), named)?;
+            out.write_all(&answer).map_err(other)?;
+            Ok(status)
         }
     }
 }
 
-/// What the command in the arguments writes to standard output.
-fn run(arguments: &[OsString]) -> Result<Vec<u8>, Trouble> {
-    let (command, file) = match arguments {
-        [command] => (command, None),
-        [command, file] => (command, Some(file).filter(|file| *file != "-")),
+/// What a command on one file gives, and the exit status.
+fn one(command: &str, named: &[OsString]) -> Result<(Vec<u8>, u8), Trouble> {
+    let file = match named {
+        [] => None,
+        [file] => Some(file).filter(|file| *file != "-"),
         _ => return Err(other(USAGE)),
     };
-    let command = match command.to_str() {
-        Some("--help" | "-h") => return Ok(USAGE.into()),
-        Some("--version") => return Ok(format!("zohapy-tool {VERSION}\n").into()),
-        Some("bytes") => bytes,
-        Some("text") => text,
-        Some("picture") => picture,
-        Some("trim") => trim,
-        _ => return Err(other(USAGE)),
-    };
-    match file {
-        None => command(&mut std::io::stdin()),
-        Some(file) => {
-            let mut opened = File::open(file).map_err(|error| other(format!("{}: {error}", file.display())))?;
-            command(&mut opened)
-        }
+    let answered = |command: fn(&mut dyn Read) -> Result<Vec<u8>, Trouble>| Ok((command(&mut *opened(file)?)?, 0));
+    match command {
+        "--help" | "-h" => Ok((USAGE.into(), 0)),
+        "--version" => Ok((format!("zohapy-tool {VERSION}\n").into(), 0)),
+        "bytes" => answered(bytes),
+        "text" => answered(text),
+        "picture" => answered(picture),
+        "trim" => answered(trim),
+        "explain" => explain(&mut *opened(file)?),
+        _ => Err(other(USAGE)),
     }
+}
+
+/// The file, or standard input.
+fn opened(file: Option<&OsString>) -> Result<Box<dyn Read>, Trouble> {
+    match file {
+        None => Ok(Box::new(std::io::stdin())),
+        Some(file) => match File::open(file) {
+            Ok(opened) => Ok(Box::new(opened)),
+            Err(error) => Err(other(format!("{}: {error}", file.display()))),
+        },
+    }
+}
+
+/// What a command on many logs gives: the head, what the form makes of each log, and the tail. A summary goes to standard error, and
+/// into the tail.
+fn many(paths: &[OsString], head: &str, form: week::Form, tail: fn(&str) -> String, out: &mut dyn Write) -> Result<u8, Trouble> {
+    let entries = found(paths)?;
+    out.write_all(head.as_bytes()).map_err(other)?;
+    let tally = week::write_all(&entries, form, out).map_err(other)?;
+    let summary = tally.summary();
+    out.write_all(tail(&summary).as_bytes()).and_then(|()| out.flush()).map_err(other)?;
+    eprint!("{summary}");
+    Ok(u8::from(tally.has_unread()))
+}
+
+/// The line of a log in a table.
+fn table_line(file: &[u8], log: Result<(&[u8], &Answer), &str>) -> Vec<u8> {
+    table::line(file, log.map(|(_, answer)| answer))
+}
+
+/// The row of a log in a page, with the explanation of a refusal. The picture of a report says itself why the number is what it is.
+fn page_row(file: &[u8], log: Result<(&[u8], &Answer), &str>) -> Vec<u8> {
+    let refused = log.ok().filter(|(_, answer)| answer.width().is_err());
+    let explanation = refused.map(|(bytes, answer)| explain::explained(bytes, answer));
+    page::row(file, log, explanation.as_deref()).into_bytes()
+}
+
+/// The logs of the paths, of which there is one at least. None begins with `-`, as no option is known.
+fn found(paths: &[OsString]) -> Result<Vec<Entry>, Trouble> {
+    let option = |path: &OsString| path.as_encoded_bytes().starts_with(b"-");
+    if paths.is_empty() || paths.iter().any(option) { Err(other(USAGE)) } else { Ok(week::find(paths)) }
 }
 
 /// The bytes of a log from its text form.
@@ -137,11 +199,23 @@ fn trim(input: &mut dyn Read) -> Result<Vec<u8>, Trouble> {
     }
 }
 
-/// The words of the input's bytes. No more bytes are read than are needed to refuse them.
+/// A log explained, and 0 where it has a report, 1 where it is refused.
+fn explain(input: &mut dyn Read) -> Result<(Vec<u8>, u8), Trouble> {
+    let (log, mut buffers) = (log_bytes(input)?, Buffers::new());
+    let answer = buffers.answer(&log);
+    Ok((explain::explained(&log, &answer).into_bytes(), u8::from(answer.width().is_err())))
+}
+
+/// The words of the input's bytes.
 fn words(input: &mut dyn Read) -> Result<Vec<u32>, Trouble> {
+    Ok(words_from_bytes(&log_bytes(input)?)?)
+}
+
+/// The input's bytes, no more than are needed to refuse them.
+fn log_bytes(input: &mut dyn Read) -> Result<Vec<u8>, Trouble> {
     let mut bytes = Vec::new();
     input.take(LOG_BYTES as u64 + 1).read_to_end(&mut bytes).map_err(other)?;
-    Ok(words_from_bytes(&bytes)?)
+    Ok(bytes)
 }
 
 #[cfg(test)]
@@ -310,10 +384,14 @@ mod tests {
 
     #[test]
     fn arguments() {
-        let run = |arguments: &[&str]| run(&arguments.iter().map(OsString::from).collect::<Vec<_>>());
-        assert_eq!(run(&["--help"]), Ok(USAGE.into()));
-        assert_eq!(run(&["--version"]), Ok(format!("zohapy-tool {}\n", env!("CARGO_PKG_VERSION")).into()));
-        for wrong in [&[][..], &["sing"], &["text", "a", "b"]] {
+        let run = |arguments: &[&str]| {
+            let mut out = Vec::new();
+            let status = run(&arguments.iter().map(OsString::from).collect::<Vec<_>>(), &mut out)?;
+            Ok((status, String::from_utf8(out).expect("text")))
+        };
+        assert_eq!(run(&["--help"]), Ok((0, USAGE.to_string())));
+        assert_eq!(run(&["--version"]), Ok((0, format!("zohapy-tool {}\n", env!("CARGO_PKG_VERSION")))));
+        for wrong in [&[][..], &["sing"], &["text", "a", "b"], &["table"], &["table", "-h"]] {
             assert_eq!(run(wrong), Err(other(USAGE)));
         }
         assert_eq!(run(&["text", "no such file"]).map_err(|trouble| trouble.status), Err(2));

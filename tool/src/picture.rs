@@ -3,9 +3,10 @@
 use std::cmp::Ordering;
 use std::collections::{BTreeMap, BTreeSet};
 
-use zohapy::{LONGEST_PAUSE, Link, Report, counts};
+use zohapy::{LONGEST_PAUSE, Report, counts};
 
 use crate::log::Log;
+use crate::wording::{counted, listed};
 
 /// Colours that colour-blind readers can tell apart, from the palette of Okabe and Ito without yellow and black. Each thread also
 /// has a row of its own.
@@ -116,11 +117,7 @@ fn pairs(log: &Log) -> impl Iterator<Item = (u32, u32)> {
 
 /// The least pause of each link of a log, where it is not 0.
 fn least_pauses(log: &Log) -> BTreeMap<(u32, u32), u32> {
-    let mut least = BTreeMap::new();
-    for &Link { from, to, pause } in &log.links {
-        let least = least.entry((from, to)).or_insert(pause);
-        *least = pause.min(*least);
-    }
+    let mut least = log.least_pauses();
     least.retain(|_, pause| *pause > 0);
     least
 }
@@ -513,21 +510,11 @@ impl Picture {
     }
 }
 
-/// A count with its noun.
-fn counted(count: usize, noun: &str) -> String {
-    format!("{count} {noun}{}", if count == 1 { "" } else { "s" })
-}
-
-/// Episodes with spaces between them.
-fn listed(episodes: &[u32]) -> String {
-    episodes.iter().map(u32::to_string).collect::<Vec<_>>().join(" ")
-}
-
 #[cfg(test)]
 mod tests {
     use super::*;
     use crate::random::Random;
-    use zohapy::{Failure, Mark};
+    use zohapy::{Failure, Link, Mark};
 
     /// How often a piece of text occurs.
     fn occurs(svg: &str, piece: &str) -> usize {

@@ -1,6 +1,7 @@
 // Prints the report on the log whose bytes stand on standard input, or its refusal.
 #![tactic(auto)]
 
+use report::Outcome;
 use std::io::Write;
 use std::process::ExitCode;
 
@@ -16,8 +17,16 @@ fn main(rt: HostRuntime) -> ExitCode {
     };
     let printed = text::text(&bytes[..count], &mut text, &mut out, &mut work).unwrap();
     match rt.stdout().write_all(&text[..printed.bytes]) {
-        Ok(()) => ExitCode::SUCCESS,
+        Ok(()) => status(printed.outcome),
         Err(_) => failed(&rt, "standard output cannot be written"),
+    }
+}
+
+// 0 after a report, 1 after a refusal.
+fn status(outcome: Outcome) -> ExitCode {
+    match outcome {
+        Outcome::Report(_) => ExitCode::SUCCESS,
+        Outcome::Loop(_) | Outcome::Refused(..) => ExitCode::from(1),
     }
 }
 
