@@ -64,8 +64,9 @@ class Browser:
             os.dup2(browser_reads, 3)
             os.dup2(browser_writes, 4)
 
-        flags = ["--headless=new", "--no-sandbox", "--disable-gpu", "--no-first-run", "--disable-background-networking"]
-        flags += ["--disable-component-update", f"--user-data-dir={folder}", "--remote-debugging-pipe", "about:blank"]
+        flags = ["--headless=new", "--no-sandbox", "--disable-gpu", "--disable-dev-shm-usage", "--no-first-run"]
+        flags += ["--disable-background-networking", "--disable-component-update", f"--user-data-dir={folder}"]
+        flags += ["--remote-debugging-pipe", "about:blank"]
         with open(os.path.join(folder, "chromium.log"), "wb") as log:
             self.process = subprocess.Popen(
                 [program, *flags], stdin=subprocess.DEVNULL, stdout=log, stderr=log, close_fds=False, preexec_fn=place_pipes
