@@ -14,8 +14,9 @@ use crate::wording::{counted, in_words, listed};
 /// How many words are shown on each side of the one that a refusal names.
 const AROUND: usize = 3;
 
-/// The most episodes of a log.
+/// The most episodes and the most to words of a log.
 const MOST_EPISODES: u32 = 200;
+const MOST_TO_WORDS: usize = 4096;
 
 /// The answer to the log with these bytes, explained.
 pub fn explained(log: &[u8], answer: &Answer) -> String {
@@ -44,7 +45,7 @@ fn of_report(log: &Log, report: &Report) -> String {
             0 => "There is no episode, so there need be no sleeper.\n",
             _ => "Every episode is a door, made by no sleeper, so there need be none.\n",
         };
-        return text + &uncounted(log);
+        return text + &line_on_uncounted(log);
     }
     text += &format!("{}\n{}\n", why_no_fewer(log, report), why_enough(log, report));
     // The members in the threads' order, each as often as it has voices.
@@ -52,7 +53,7 @@ fn of_report(log: &Log, report: &Report) -> String {
     for (i, (steps, member)) in report.threads.iter().zip(members).enumerate() {
         text += &format!("  {member} is in thread {i}: {}\n", listed(steps));
     }
-    text + &uncounted(log)
+    text + &line_on_uncounted(log)
 }
 
 /// Why no fewer sleepers are enough, by the apart set.
@@ -79,7 +80,7 @@ fn why_no_fewer(log: &Log, report: &Report) -> String {
 
 /// Why no sleeper could have made two episodes of an apart set.
 fn because(log: &Log) -> &'static str {
-    if all_count(log) {
+    if uncounted(log) == 0 {
         "because no links lead from one of them to another"
     } else {
         "because no links that count lead from one of them to another"
@@ -89,10 +90,8 @@ fn because(log: &Log) -> &'static str {
 /// Why so many sleepers are enough, by the threads.
 fn why_enough(log: &Log, report: &Report) -> String {
     let marked = log.marks.iter().any(|mark| mark.voices != 1);
-    let hold = match marked {
-        false => "each episode is in a thread",
-        true => "each episode is in as many threads as it has voices, or more",
-    };
+    let hold =
+        if marked { "each episode is in as many threads as it has voices, or more" } else { "each episode is in a thread" };
     match report.width {
         1 if marked => {
             "One is enough: each episode but doors is in the thread, all of which one sleeper could have made, in order."
@@ -103,20 +102,19 @@ fn why_enough(log: &Log, report: &Report) -> String {
     }
 }
 
-/// Whether every link of a log counts.
-fn all_count(log: &Log) -> bool {
-    log.least_pauses().values().all(|pause| counts(log.version, *pause))
+/// How many different links of a log do not count.
+fn uncounted(log: &Log) -> usize {
+    log.least_pauses().values().filter(|pause| !counts(log.version, **pause)).count()
 }
 
 /// A line on the links that do not count, where there are any.
-fn uncounted(log: &Log) -> String {
-    let least = log.least_pauses();
-    let which = match least.values().filter(|pause| !counts(log.version, **pause)).count() {
+fn line_on_uncounted(log: &Log) -> String {
+    let which = match uncounted(log) {
         0 => return String::new(),
         1 => "1 does not count, because its least pause is".to_string(),
         count => format!("{count} do not count, because their least pauses are"),
     };
-    format!("Of {} {which} over {LONGEST_PAUSE} minutes.\n", counted(least.len(), "different link"))
+    format!("Of {} {which} over {LONGEST_PAUSE} minutes.\n", counted(log.least_pauses().len(), "different link"))
 }
 
 /// The links of a loop, each with the to words that give it and their from words.
@@ -208,9 +206,9 @@ fn wrong_head(words: &[u32], refused: u32) -> Wrong {
         },
         18 => Wrong {
             what: format!("The head gives version {version}, which is not known."),
-            needed: match [0, 1].map(|version| head_word(version, episodes)) {
-                [Some(of_0), Some(of_1)] => format!("version 0, which would be {of_0:08X}, or version 1, {of_1:08X}"),
-                _ => "version 0 or 1".to_string(),
+            needed: {
+                let [of_0, of_1] = [0, 1].map(|version| head_word(version, episodes).expect("a head has room for both"));
+                format!("version 0, which would be {of_0:08X}, or version 1, {of_1:08X}")
             },
         },
         _ => Wrong {
@@ -230,11 +228,10 @@ fn wrong_voices(words: &[u32], Refusal { number, place }: Refusal) -> Wrong {
         },
         19 => Wrong {
             what: format!("The voices word gives {given} voices to episode {marked}; an episode has at most {MOST_VOICES}."),
-            needed: match [0, 1, 2].map(|voices| voices_word(marked, voices)) {
-                [Some(none), Some(one), Some(two)] => {
-                    format!("{none:08X} for a door, {one:08X} for one voice, or {two:08X} for a duet")
-                }
-                _ => format!("at most {MOST_VOICES} voices"),
+            needed: {
+                let [none, one, two] =
+                    [0, 1, 2].map(|voices| voices_word(marked, voices).expect("a voices word has room for both"));
+                format!("{none:08X} for a door, {one:08X} for one voice, or {two:08X} for a duet")
             },
         },
         20 => Wrong {
@@ -283,11 +280,10 @@ fn wrong_word(words: &[u32], Refusal { number: refused, place }: Refusal) -> Wro
             needed: "a from word in front of it".to_string(),
         },
         6 => Wrong {
-            what: match place + 2 == words.len() {
-                true => {
-                    "Behind the from word stands the last word, which has to be the end, so that it has no to word.".to_string()
-                }
-                false => "Behind the from word stands no to word.".to_string(),
+            what: if place + 2 == words.len() {
+                "Behind the from word stands the last word, which has to be the end, so that it has no to word.".to_string()
+            } else {
+                "Behind the from word stands no to word.".to_string()
             },
             needed: "a to word right behind it, before the last word; or no from word here".to_string(),
         },
@@ -342,10 +338,8 @@ fn wrong_end(words: &[u32], refused: u32) -> Wrong {
             needed: format!("{}, unless {unless}", end(count)),
         };
     }
-    let behind = match kind(*last) {
-        3 => format!(", or {} behind it", end(count + 1)),
-        _ => String::new(),
-    };
+    let may_stay = kind(*last) == 3 && count < MOST_TO_WORDS;
+    let behind = if may_stay { format!(", or {} behind it", end(count + 1)) } else { String::new() };
     Wrong {
         what: "The last word is no end. The log may have been cut off.".to_string(),
         needed: format!("an end with the count of to words: {} in its place{behind}", end(count)),
@@ -465,6 +459,11 @@ mod tests {
         assert!(text.starts_with("refused 8 at 4098\n\nThe 4,097th to word stands here; a log has at most 4,096.\n\n"));
         assert!(text.contains("\n>  4098  30000001  kind 3 (to), number 1: episode 1, pause 0\n"));
         assert!(text.ends_with("\nNeeded: at most 4,096 to words, each repeat counted.\n"));
+        // Where the last word is a to word too many, no end behind it would do.
+        words.pop();
+        let text = explanation(&bytes_from_words(&words));
+        assert!(text.starts_with("refused 9 at 4098\n"));
+        assert!(text.ends_with("\nNeeded: an end with the count of to words: F0001000 in its place.\n"));
         let text = explanation(&[0; LOG_BYTES + 1]);
         assert!(text.starts_with("refused 14 at 33256\n\nThe file has more than 33256 bytes, the most that a log can have.\n\n"));
         assert_eq!(text.matches("  00000000  kind 0, number 0: no word of a log\n").count(), 4);

@@ -26,7 +26,7 @@ const LARGEST: usize = 3;
 pub type Form = fn(&[u8], Result<(&[u8], &Answer), &str>) -> Vec<u8>;
 
 /// A file that is named or found: its path, and why it is no log that can be read, where that is known already.
-#[derive(Clone, Debug, PartialEq, Eq, PartialOrd, Ord)]
+#[derive(Debug)]
 pub struct Entry {
     path: PathBuf,
     trouble: Option<String>,
@@ -85,7 +85,7 @@ fn trouble(path: &Path) -> Option<String> {
 }
 
 /// What is counted of a log.
-#[derive(Clone, Copy, Debug, PartialEq, Eq)]
+#[derive(Clone, Copy)]
 enum Counted {
     Report(usize),
     Refused(u32),
@@ -99,7 +99,7 @@ struct Line {
 }
 
 /// What has been counted of the logs so far.
-#[derive(Clone, Debug, Default, PartialEq, Eq)]
+#[derive(Default)]
 pub struct Tally {
     logs: usize,
     reports: usize,

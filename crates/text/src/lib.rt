@@ -107,7 +107,7 @@ fn put_threads(text: &mut [u8], words: &[u32]) -> usize
     at
 }
 
-// The same with one number.
+// Writes a line of one figure: its name, the figure, and a newline.
 fn put_figure_line(text: &mut [u8], name: &[u8], n: usize) -> usize
     requires { length (line name.now (n ∷ [])) ≤ length text.old }
     ensures { Put (line name.now (n ∷ [])) text.old text.new result }

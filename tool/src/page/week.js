@@ -23,7 +23,7 @@ const REASONS = {
   21: "voices given again",
 };
 
-// So many rows are opened at once at most.
+// The most rows that one click opens.
 const MOST_OPENED = 50;
 
 const COLUMN = { file: 0, refusal: 6 };
