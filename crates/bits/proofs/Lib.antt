@@ -4,5 +4,6 @@ pub mod Parts
 pub mod Rows
 pub mod Joins
 pub mod Frames
+pub mod Matrices
 pub mod Left
 pub mod Pairs

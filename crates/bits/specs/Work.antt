@@ -67,3 +67,8 @@ pub record Outside (lo hi : ℕ) (w w' : List ℕ) : Type 0 where
   pub same_length : length w' ≡ length w
   pub before : (i : ℕ) → i < lo → get_or w' i 0 ≡ get_or w i 0
   pub behind : (i : ℕ) → hi ≤ i → get_or w' i 0 ≡ get_or w i 0
+
+-- the words of the matrix at `from` are those of the matrix at `to` too
+pub record MatrixCopied (w w' : List ℕ) (from to : ℕ) : Type 0 where
+  pub outside : Outside to (to + matrix_words) w w'
+  pub words : (i : ℕ) → i < matrix_words → get_or w' (to + i) 0 ≡ get_or w (from + i) 0

@@ -5,12 +5,16 @@
 
 ghost use Rattle.std.specs.Prelude.{◌≡◌, false, ℕ, ◌+◌, ◌-◌, ◌*◌, ◌/◌, ◌<◌, ◌≤◌, IfSome, eqb, length, get_or, replicate};
 ghost use Rattle.bits.specs.Ones.{left};
+ghost use Rattle.bits.specs.Work.{matrix_words, MatrixCopied};
 ghost use Rattle.bits.specs.Bits.{digit, bit, BitSet, SetWhere, RowJoined, RowAdded, RowsAdded, RowGained, RowTaken, RowLess, RowCopied, FirstBit, NextNew, place_or_end};
 
 pub mod ones;
 
 pub use ones::{Ones, Row, ones_of};
 use std::array;
+
+// The words of a matrix of bits: a row of 8 words for each of 256 episodes or items.
+const MATRIX: usize = 2048;
 
 // The regions of the work words: the links and the ways, each a row of bits for each episode, and the pairs of items, a row for each item; the tables
 // of the search, 256 words each; the bits of what it has seen, of what earlier searches have seen in vain, and bits of which none is set: no code
@@ -85,8 +89,8 @@ fn join(to: &mut [u32], from: &[u32])
 }
 
 // Joins the row that starts at word `row` of `w` into the row `v`.
-pub fn join_into(w: &[u32], row: usize, v: &mut [u32; 8])
-    requires { row + 8 ≤ length w.now }
+pub fn join_into(w: &[u32], row: usize, v: &mut [u32])
+    requires { (row + 8 ≤ length w.now) × (length v.old ≡ 8) }
     ensures { RowAdded w.now row v.old v.new }
 {
     join(v, &w[row..row + 8]);
@@ -103,8 +107,8 @@ pub fn join_rows(w: &[u32], base: usize, x: u32, v: &mut [u32; 8])
 }
 
 // Joins the row `v` into the row that starts at word `row` of `w`.
-pub fn join_from(v: &[u32; 8], w: &mut [u32], row: usize)
-    requires { row + 8 ≤ length w.old }
+pub fn join_from(v: &[u32], w: &mut [u32], row: usize)
+    requires { (length v.now ≡ 8) × (row + 8 ≤ length w.old) }
     ensures { RowGained v.now w.old w.new row }
 {
     join(&mut w[row..row + 8], v);
@@ -135,6 +139,17 @@ pub fn copy_row(w: &mut [u32], to: usize, from: usize)
 {
     let row = row_at(w, from);
     w[to..to + 8].copy_from_slice(&row);
+}
+
+// Copies the matrix that starts at word `from` to where one starts at word `to`, behind it.
+pub fn copy_matrix(w: &mut [u32], from: usize, to: usize)
+    requires { (from + matrix_words ≤ to) × (to + matrix_words ≤ length w.old) }
+    ensures { MatrixCopied w.old w.new from to }
+{
+    // Word by word: `copy_from_slice` of so many would be a call of C's `memcpy`, and the archive asks a caller for `memset` alone.
+    for i in 0..MATRIX {
+        w[to + i] = w[from + i];
+    }
 }
 
 // The bits that `word` has and `other` has not.

@@ -6,13 +6,13 @@
 ghost use Rattle.std.specs.Prelude.{◌≡◌, ◌≢◌, not, List, ℕ, ◌+◌, ◌/◌, ◌%◌, ◌^◌, ◌<◌, ◌≤◌, eqb, length, get_or, replicate, set};
 ghost use Rattle.logs.specs.Words.{word, head_of, Small};
 ghost use Rattle.logs.specs.Content.{heard_graph, least_pause};
-ghost use Rattle.logs.specs.Log.{content_of};
+ghost use Rattle.logs.specs.Log.{content_of, graph_of, PassedLog};
 ghost use Rattle.logs.specs.Groups.{EpisodesBelow};
 ghost use Rattle.writing.specs.Layout.{BeginsWith};
 ghost use Rattle.copying.specs.FairCopy.{linked_to, group, groups, voices_words, copy_words, copy_length, fair_words};
 ghost use Rattle.copying.specs.Calls.{WritesLinks};
 ghost use Rattle.paths.specs.Graph.{Graph};
-ghost use Rattle.copying.specs.Copying.{BlockMarks, Lowered, GroupTaken, marked, pause_at, group_length, LinksWritten, GroupWritten, GroupsWritten, said, VoicesWritten};
+ghost use Rattle.copying.specs.Copying.{block_words, BlockMarks, Lowered, GroupTaken, marked, pause_at, group_length, LinksWritten, GroupWritten, GroupsWritten, said, VoicesWritten};
 
 use logs::{Group, Head, Kind, Log, ToWord, VoicesWord};
 
@@ -190,7 +190,7 @@ pub fn write_by_rows<F: FnMut(usize, &mut [u32]) -> usize>(
 }
 
 // Writes the fair copy of a log, and gives its count of words.
-pub fn write_copy(log: Log, out: &mut [u32], w: &mut [u32; BLOCK]) -> usize
+fn write_passed(log: Log, out: &mut [u32], w: &mut [u32; BLOCK]) -> usize
     requires { (log.episodes ≤ 256) × (length (fair_words (content_of log.words.now)) ≤ length out.old) }
     ensures { (result ≡ length (fair_words (content_of log.entry.words.now)))
         × BeginsWith (fair_words (content_of log.entry.words.now)) out.old out.new }
@@ -219,4 +219,14 @@ pub fn write_copy(log: Log, out: &mut [u32], w: &mut [u32; BLOCK]) -> usize
             write_links(&marks[row..row + log.episodes], rest)
         },
     )
+}
+
+// Writes the fair copy of a log that passes with `n` episodes, and gives its count of words.
+pub fn write_copy(log: &[u32], n: usize, out: &mut [u32], w: &mut [u32]) -> usize
+    requires { PassedLog log.now × ((graph_of log.now).n ≡ n) × (length w.old ≡ block_words)
+        × (length (fair_words (content_of log.now)) ≤ length out.old) }
+    ensures { (result ≡ length (fair_words (content_of log.now)))
+        × BeginsWith (fair_words (content_of log.now)) out.old out.new }
+{
+    write_passed(Log::passed(log, n), out, w.first_chunk_mut().unwrap())
 }

@@ -19,7 +19,7 @@ fn copy(log: Log, out: &mut [u32], work: &mut [u32; WORK_WORDS]) -> usize
         × BeginsWith (fair_words (content_of log.entry.words.now)) out.old out.new
         × (work.new ≡ replicate work_words 0) }
 {
-    let words = copying::write_copy(log, out, work);
+    let words = copying::write_copy(log.words, log.episodes, out, work);
     bits::clear(work);
     words
 }

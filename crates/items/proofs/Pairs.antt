@@ -12,7 +12,7 @@ use Rattle.std.proofs.lemmas.List.{get_or-append_right}
 use Rattle.paths.specs.Graph.{Graph}
 use Rattle.paths.proofs.Items.{items_one, owner_one}
 use Rattle.bits.specs.Bits.{bit}
-use Rattle.bits.specs.Work.{ways_at, items_at, next_at, voices_at, matrix_words, Outside}
+use Rattle.bits.specs.Work.{ways_at, items_at, next_at, voices_at, matrix_words, Outside, MatrixCopied}
 use Rattle.bits.proofs.Parts.{put_length, put_before, put_behind, bit_put}
 use Rattle.bits.proofs.Frames.{outside_none, outside_then, outside_wider, bit_before, bit_behind, bit_moved, row_other}
 use Rattle.items.specs.Listed.{voices_in, start_in, owner_in, Listed, WaysBelow, PairsIn}
@@ -139,53 +139,8 @@ module _ {w w' : List ℕ} {n m a : ℕ} (l : Listed w n m) (s : PairedTo w w' m
 
 -- ---- one voice each
 
--- the matrices `front` and the words behind; `part`, the ways, takes the place of the pairs
-pub ways_copied : {w : List ℕ} (front rest part : List ℕ) → w ≡ front ++ rest → length front ≡ items_at → next_at ≤ length w
-    → part ≡ take (length front - ways_at) (drop ways_at front) → WaysCopied w (front ++ (part ++ drop matrix_words rest))
-ways_copied {w} front rest part e many long same =
-    record {
-      outside =
-          record {
-            same_length =
-                omega (
-                  arith,
-                  total,
-                  size,
-                  length-append front (part ++ back),
-                  length-append part back,
-                  length-drop matrix_words rest,
-                );
-            before = λ i h. get_or-append front (part ++ back) 0 i (omega arith) ∙ sym (was i ∙ get_or-append front rest 0 i (omega arith));
-            behind = λ i h.
-                let at : matrix_words + (i - next_at) ≡ i - items_at = omega arith in
-                get_or-append_right front (part ++ back) items_at i 0 many (omega arith)
-                ∙ get_or-append_right part back matrix_words (i - items_at) 0 size (omega arith)
-                ∙ get_or-drop matrix_words rest (i - items_at - matrix_words) 0
-                ∙ ap (λ (j : ℕ). get_or rest j 0) (omega arith)
-                ∙ sym (was i ∙ get_or-append_right front rest items_at i 0 many (omega arith));
-          };
-      words = λ i h.
-          get_or-append_right front (part ++ back) items_at (items_at + i) 0 many (omega arith)
-          ∙ ap (λ (j : ℕ). get_or (part ++ back) j 0) (omega arith)
-          ∙ get_or-append part back 0 i (omega (arith, size))
-          ∙ ap (λ (l : List ℕ). get_or l i 0) same
-          ∙ get_or-take (length front - ways_at) (drop ways_at front) i 0 (omega arith)
-          ∙ get_or-drop ways_at front i 0
-          ∙ sym (was (ways_at + i) ∙ get_or-append front rest 0 (ways_at + i) (omega arith));
-    }
-  where
-    back : List ℕ
-    back = drop matrix_words rest
-
-    total : length w ≡ length front + length rest
-    total = ap length e ∙ length-append front rest
-
-    size : length part ≡ matrix_words
-    size =
-        ap length same ∙ length-take-le (length front - ways_at) (drop ways_at front) (omega (arith, length-drop ways_at front)) ∙ omega arith
-
-    was : (i : ℕ) → get_or w i 0 ≡ get_or (front ++ rest) i 0
-    was i = ap (λ l. get_or l i 0) e
+pub ways_copied : {w w' : List ℕ} → MatrixCopied w w' ways_at items_at → WaysCopied w w'
+ways_copied c = record { outside = c.outside; words = c.words }
 
 -- items are then the episodes
 pub copied_pairs : {w w' : List ℕ} {n m : ℕ} → Listed w n m → ((v : ℕ) → v < n → voices_in w v ≡ 1) → WaysCopied w w' → PairsIn w w' m

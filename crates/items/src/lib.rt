@@ -8,7 +8,7 @@ ghost use Rattle.paths.specs.Items.{owners};
 ghost use Rattle.items.specs.Listed.{voices_in, start_in, owner_in, Listed, WaysBelow, PairsIn};
 ghost use Rattle.items.specs.Pairing.{Added, Numbered, ListedAlike, WaysCopied, BitsSet, HasMasks, Ready, HoldsItems, ItemsPaired};
 
-use bits::{ITEMS, NEXT, OWNERS, STARTS, VOICES, WAYS};
+use bits::{ITEMS, OWNERS, STARTS, VOICES, WAYS};
 
 // The words of the masks: for each episode a row with the bits of its items.
 const MASKS: usize = 2048;
@@ -112,8 +112,7 @@ fn copy_ways(w: &mut [u32])
     requires { used_words ≤ length w.old }
     ensures { WaysCopied w.old w.new }
 {
-    let (matrices, rest) = w.split_at_mut(ITEMS);
-    rest[..NEXT - ITEMS].copy_from_slice(&matrices[WAYS..]);
+    bits::copy_matrix(w, WAYS, ITEMS);
 }
 
 // Sets the bits of the items of `b` in its row of the masks.

@@ -1,5 +1,5 @@
 -- Counting links: the rows hold those that a counter has heard, and their count is that of the different ones.
-use mathlib.Core.Path.{◌≡◌, refl, ◌∙◌}
+use mathlib.Core.Path.{◌≡◌, refl, sym, ◌∙◌}
 use mathlib.Core.Bool.{Bool, true, false, not, ◌&&◌}
 use mathlib.Core.List.{List, [], ◌∷◌, ◌++◌, append-nil}
 use Prim.Native.Nat.{ℕ, zero, suc, ◌+◌, ◌*◌, ◌<◌, ◌≤◌, ◌^◌}
@@ -7,20 +7,23 @@ use native.Mathlib.Decide.{ℕ_discrete}
 use native.Mathlib.Nat.{add-zero}
 use native.Mathlib.Omega.{arith}
 use lib.Dec.{eqb}
-use lib.ListN.{length, replicate, length-replicate, get_or-replicate}
+use lib.ListN.{length, get_or, replicate, length-replicate, get_or-replicate}
 use mir.Val.{bool_byte}
 use Rattle.paths.specs.Graph.{Graph, SameLinks}
 use Rattle.paths.specs.Links.{distinct, link_count}
 use Rattle.paths.proofs.Links.{distinct_again, distinct_new, count_few, count_same}
-use Rattle.logs.specs.Log.{graph_of}
+use Rattle.logs.specs.Answer.{refused}
+use Rattle.logs.specs.Log.{head_word, graph_of}
+use Rattle.logs.specs.declared.Ceilings.{Ceilings}
 use Rattle.logs.specs.Groups.{short_links}
 use Rattle.logs.specs.Hear.{Next, where_short}
 use Rattle.logs.proofs.Laws.{short_counts}
+use Rattle.logs.proofs.Whole.{too_short, head_first}
 use Rattle.bits.specs.Bits.{bit, BitSet, SetWhere}
 use Rattle.bits.specs.Work.{matrix_words}
 use Rattle.bits.proofs.Rows.{bit_lt}
 use Rattle.bits.proofs.Pairs.{no_pairs, one_pair_more}
-use Rattle.link_count.specs.Counted.{Counted}
+use Rattle.link_count.specs.Counted.{Counted, count_asked}
 
 -- nothing is heard yet
 pub none_counted : Counted (replicate matrix_words 0) 0 []
@@ -80,3 +83,10 @@ count_of_log l seen count all =
     let heard : Graph = record { n = (graph_of l).n; links = short_links l; voices = (graph_of l).voices } in
     let same : SameLinks heard (graph_of l) = record { episodes = refl; voices = λ v h. refl; links = short_counts l } in
     all.counted ∙ count_same same
+
+-- a log of fewer than two words, or with a head that is refused, is refused as the reading refuses it
+pub short_refused : (m : Ceilings) (l : List ℕ) → length l < 2 → refused 1 0 ≡ count_asked m l
+short_refused m l h = rw (too_short m l h)
+
+pub head_refused : (m : Ceilings) (l : List ℕ) (q p : ℕ) → 2 ≤ length l → refused q p ≡ head_word m (get_or l 0 0) → refused q p ≡ count_asked m l
+head_refused m l q p h e = rw (head_first m l h, sym e)

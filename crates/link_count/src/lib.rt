@@ -6,7 +6,7 @@ ghost use Rattle.logs.specs.Log.{service};
 ghost use Rattle.bits.specs.Bits.{bit, SetWhere};
 ghost use Rattle.link_count.specs.Counted.{Counted, count_answer, count_asked};
 
-use logs::{Ceilings, Hear, Refusal};
+use logs::{Ceilings, Hear, Reason, Refusal};
 
 // The words of a matrix of bits, a row of 8 words for each of 256 episodes.
 const MATRIX: usize = 2048;
@@ -49,11 +49,16 @@ impl<'a> Hear for Counter<'a> {
 }
 
 // The link count at a caller's ceilings, in one pass over the log.
-#[tactic(auto, using(crate::proofs::Counting::none_counted, crate::proofs::Counting::count_of_log))]
+#[tactic(auto, using(crate::proofs::Counting::none_counted, crate::proofs::Counting::count_of_log, crate::proofs::Counting::short_refused, crate::proofs::Counting::head_refused))]
 fn link_count_within(most: Ceilings, log: &[u32]) -> Result<usize, Refusal>
     requires { most.episodes ≤ 256 }
     ensures { count_answer result ≡ count_asked most log.now }
 {
+    // Asked first, as the reading asks it again, so that a log which its head refuses does not wait for the matrix.
+    let [head, _, ..] = log else {
+        return Err(Reason::TooShort.at(0));
+    };
+    logs::head_word(most, *head)?;
     let mut seen = [0; MATRIX];
     let mut counter = Counter {
         seen: &mut seen,

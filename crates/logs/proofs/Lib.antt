@@ -12,6 +12,7 @@ pub mod Counts
 pub mod Rest
 pub mod BehindHead
 pub mod WellFormed
+pub mod PassedLogs
 pub mod Laws
 pub mod Hearing
 pub mod VoicesTable

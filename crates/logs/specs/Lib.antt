@@ -10,3 +10,4 @@ pub mod Groups
 pub mod Voices
 pub mod Passing
 pub mod Hear
+pub mod Shown

@@ -249,6 +249,11 @@ impl Refusal {
 }
 
 impl fmt::Display for Refusal {
+    ghost use Rattle.std.specs.Prelude.{Some};
+    ghost use Rattle.logs.specs.Shown.{refusal_shown};
+
+    ghost output = { λ r. Some (refusal_shown (reason_number r.reason) r.place) };
+
     fn fmt<W: fmt::Write>(&self, f: &mut fmt::Formatter<W>) -> fmt::Result {
         write!(f, "refused {} at {}", self.number(), self.place)
     }

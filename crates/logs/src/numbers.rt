@@ -1,4 +1,8 @@
 // The numbers of words, as they are printed.
+ghost use Rattle.std.specs.Prelude.{Some};
+ghost use Rattle.logs.specs.Words.{kind_code};
+ghost use Rattle.logs.specs.Shown.{numbers_shown};
+
 use crate::{Kind, number_of};
 use std::fmt;
 
@@ -10,10 +14,13 @@ pub struct Numbers<'a> {
 }
 
 impl fmt::Display for Numbers<'_> {
+    ghost output = { λ n. Some (numbers_shown (kind_code n.kind) n.words.now) };
+
     fn fmt<W: fmt::Write>(&self, f: &mut fmt::Formatter<W>) -> fmt::Result {
-        let kind = self.kind;
-        for w in self.words.iter().filter(|w| kind.is_of(**w)) {
-            write!(f, " {}", number_of(*w))?;
+        for w in self.words {
+            if self.kind.is_of(*w) {
+                write!(f, " {}", number_of(*w))?;
+            }
         }
         Ok(())
     }

@@ -2,11 +2,11 @@
 ghost use Rattle.std.specs.Prelude.{◌≡◌, ◌+◌, ◌-◌, ◌≤◌, IfOk, length, replicate};
 ghost use Rattle.std.specs.Iterator.{at_most};
 ghost use Rattle.logs.specs.Answer.{result_answer};
-ghost use Rattle.logs.specs.Log.{questions, content_of, voices_count, PassesWith};
+ghost use Rattle.logs.specs.Log.{questions, content_of, graph_of, voices_count, PassedLog, PassesWith};
 ghost use Rattle.logs.specs.Groups.{Starts};
-ghost use Rattle.logs.specs.Voices.{VoicesRead};
+ghost use Rattle.logs.specs.Voices.{VoicesRead, voices_behind};
 
-use crate::{Ceilings, Head, Refusal, VoicesWord, group_end, number_of, read_within};
+use crate::{Ceilings, Head, Kind, Refusal, VoicesWord, group_end, number_of, read_within};
 
 // A log that passes questions 1 to 10 and 18 to 21: its words, and its counts of episodes, of to words and of voices words.
 #[derive(Clone, Copy)]
@@ -17,6 +17,17 @@ pub struct Log<'a> {
     pub voices_words: usize,
     ghost passes: { PassesWith words.now episodes to_words },
     ghost voices: { voices_words ≡ voices_count words.now },
+}
+
+// How many voices words stand behind the head, up to the first word of another kind.
+fn voices_behind(words: &[u32]) -> usize
+    ensures { result ≡ voices_behind words.now }
+{
+    words
+        .iter()
+        .skip(1)
+        .take_while(|w| Kind::Voices.is_of(**w))
+        .count()
 }
 
 impl<'a> Log<'a> {
@@ -32,6 +43,20 @@ impl<'a> Log<'a> {
             to_words: reading.to_words,
             voices_words: reading.voices_words,
         })
+    }
+
+    // The log of words that are known to pass, with `n` episodes. No question is asked again: the end says how many to words there are, and the voices
+    // words stand behind the head.
+    pub fn passed(words: &'a [u32], n: usize) -> Log<'a>
+        requires { PassedLog words.now × ((graph_of words.now).n ≡ n) }
+        ensures { (result.words.now ≡ words.now) × (result.episodes ≡ n) }
+    {
+        Log {
+            words,
+            episodes: n,
+            to_words: number_of(words[words.len() - 1]),
+            voices_words: voices_behind(words),
+        }
     }
 }
 

@@ -10,7 +10,7 @@ use Rattle.std.proofs.lemmas.List.{get_or_past}
 use Rattle.paths.specs.Graph.{Graph, EndsBelow, Link}
 use Rattle.logs.specs.Log.{graph_of, PassesWith}
 use Rattle.logs.proofs.Laws.{graph_episodes, links_below}
-use Rattle.bits.specs.Work.{links_at, ways_at, matrix_words, Matrix, items_at}
+use Rattle.bits.specs.Work.{links_at, ways_at, Matrix, MatrixCopied, items_at}
 use Rattle.bits.proofs.Frames.{outside_then, outside_wider, matrix_before}
 use Rattle.rising.specs.Rising.{NoWays, BitsRise, LinksRise}
 use Rattle.rising.proofs.Front.{matrix_same, matrix_all, outside_all}
@@ -25,28 +25,8 @@ links_rise w n g few ends e m rise a b l =
 
 -- ---- other links: copied and closed
 
--- the words of the links, `links`, take the place of those of the ways
-pub copied : {w : List ℕ} (links ways ways' : List ℕ) → w ≡ links ++ ways → length links ≡ matrix_words → length ways ≡ matrix_words → ways' ≡ links
-    → LinksCopied w (links ++ ways')
-copied {w} links ways ways' e many many' same =
-    record {
-      outside =
-          record {
-            same_length = length-append links ways' ∙ omega (arith, ap length same, ap length e, length-append links ways);
-            before = λ i h. get_or-append links ways' 0 i (omega arith) ∙ sym (was i ∙ get_or-append links ways 0 i (omega arith));
-            behind = λ i h. last ways' i (ap length same ∙ many) h ∙ sym (was i ∙ last ways i many' h);
-          };
-      words = λ i h.
-          let j : length links + i ≡ ways_at + i = omega arith in
-          let k : links_at + i ≡ i = omega arith in
-          rw j at (get_or-append-add links ways' i 0) ∙ ap (λ l. get_or l i 0) same ∙ rw k (sym (was i ∙ get_or-append links ways 0 i (omega arith)));
-    }
-  where
-    was : (i : ℕ) → get_or w i 0 ≡ get_or (links ++ ways) i 0
-    was i = ap (λ l. get_or l i 0) e
-
-    last : (v : List ℕ) (i : ℕ) → length v ≡ matrix_words → items_at ≤ i → get_or (links ++ v) i 0 ≡ 0
-    last v i n h = get_or_past (links ++ v) i 0 (omega (arith, length-append links v))
+pub copied : {w w' : List ℕ} → MatrixCopied w w' links_at ways_at → LinksCopied w w'
+copied c = record { outside = c.outside; words = c.words }
 
 pub closed_reached : (w w' w'' : List ℕ) (n : ℕ) → LinksCopied w w' → Closed w' w'' n → WaysReached w w'' n
 closed_reached w w' w'' n c q =

@@ -55,8 +55,7 @@ fn mark_links(log: Log, w: &mut [u32; ITEMS])
 fn copy_links(w: &mut [u32; ITEMS])
     ensures { LinksCopied w.old w.new }
 {
-    let (links, ways) = w.split_at_mut(WAYS);
-    ways.copy_from_slice(links);
+    bits::copy_matrix(w, LINKS, WAYS);
 }
 
 // Where `a` has a way to `k`, gives it the ways of `k`, which are `ways`.

@@ -2,3 +2,4 @@
 pub mod Report
 pub mod Accepted
 pub mod Solving
+pub mod Shown

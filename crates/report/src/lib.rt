@@ -6,7 +6,7 @@ ghost use Rattle.std.specs.Prelude.{◌≡◌, List, ℕ, ◌+◌, ◌<◌, ◌�
 ghost use Rattle.std.specs.Borrow.{MutBor};
 ghost use Rattle.paths.specs.Graph.{Graph, Loop};
 ghost use Rattle.logs.specs.Answer.{given, result_answer, reason_number};
-ghost use Rattle.logs.specs.Log.{service, graph_of, voices_count, PassesWith};
+ghost use Rattle.logs.specs.Log.{service, graph_of, voices_count, PassedLog, PassesWith};
 ghost use Rattle.writing.specs.Layout.{report_need};
 ghost use Rattle.writing.specs.Writing.{ReportRoom};
 ghost use Rattle.report.specs.Report.{work_words, lent, asked, report_needs, Left};
@@ -42,6 +42,11 @@ impl From<Refusal> for Outcome {
 }
 
 impl fmt::Display for Outcome {
+    ghost use Rattle.std.specs.Prelude.{Some};
+    ghost use Rattle.report.specs.Shown.{outcome_shown};
+
+    ghost output = { λ o. Some (outcome_shown o) };
+
     fn fmt<W: fmt::Write>(&self, f: &mut fmt::Formatter<W>) -> fmt::Result {
         match *self {
             Outcome::Report(words) => write!(f, "count {words}"),
@@ -115,14 +120,15 @@ fn report_asked(
     call_asked(most, words, output, work, |n, _, v| report_need(n, v))
 }
 
-// The links, the ways and the voices of a log, in work words. Those of the links and the ways and those of the tables of the search are made zero first;
-// what is kept of items is written whole.
-pub fn prepare(log: Log, w: &mut [u32; WORK_WORDS])
-    requires { log.episodes < 256 }
-    ensures { Ready (graph_of log.entry.words.now) log.entry.episodes w.new }
+// The links, the ways and the voices of a log that passes, in work words. Those of the links and the ways and those of the tables of the search are made
+// zero first; what is kept of items is written whole.
+pub fn prepare(log: &[u32], n: usize, w: &mut [u32])
+    requires { PassedLog log.now × ((graph_of log.now).n ≡ n) × (n < 256) × (length w.old ≡ work_words) }
+    ensures { Ready (graph_of log.now) n w.new }
 {
     bits::clear(&mut w[0..ITEMS]);
     bits::clear(&mut w[NEXT..VOICES]);
+    let log = Log::passed(log, n);
     reach::reachability(log, w);
     log.read_voices(&mut w[VOICES..STARTS]);
 }
@@ -141,7 +147,7 @@ pub fn solve<R, F: FnOnce(usize, &mut [u32], &mut [u32]) -> R>(
         × F.post answer log.entry.episodes o v result o' v' × (out.new ≡ o'.now) }
     ensures cleared { w.new ≡ replicate work_words 0 }
 {
-    prepare(log, w);
+    prepare(log.words, log.episodes, w);
     let result = answer(log.episodes, out, w);
     bits::clear(w);
     result

@@ -7,4 +7,4 @@ use Rattle.bits.proofs.join_from.Goals as goal
 pub returns : goal.returns
 returns c =
     let a = c.args in
-    row_gained a.w.now _ (omega arith) a.row _ c.requires c.join.ensures
+    row_gained a.w.now _ (omega arith) a.row _ c.requires.1 c.join.ensures

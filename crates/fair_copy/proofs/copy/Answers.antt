@@ -2,8 +2,19 @@
 use mathlib.Core.Path.{◌≡◌}
 use native.Mathlib.Omega.{arith}
 use lib.ListN.{length}
+use Rattle.logs.proofs.Laws.{graph_episodes}
+use Rattle.logs.proofs.WellFormed.{passes_passed}
 use Rattle.report.specs.Report.{work_words}
 use Rattle.fair_copy.proofs.copy.Goals as goal
+
+pub write_copy-words-requires : goal.write_copy-words-requires
+write_copy-words-requires c =
+    let l = c.args.log in (
+      passes_passed l.words.now l.episodes l.to_words c.requires.0 l.passes,
+      graph_episodes _ l.words.now l.episodes l.to_words l.passes,
+      omega arith,
+      c.requires.1,
+    )
 
 pub returns : goal.returns
 returns c =

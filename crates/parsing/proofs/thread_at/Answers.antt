@@ -19,19 +19,15 @@ some_place (Some x) h = search rules
 pub unwrap-requires : goal.unwrap-requires
 unwrap-requires c =
     let has = c.requires in
-    let there = report_thread c.args.report.now has.0 has.1 has.2 c.apart_count.result c.args.i _ c.apart_count.ensures.count c.threads_end.ensures has.3 in
+    let there = report_thread c.args.report.now has.0 has.1 has.2 c.apart_count.result _ _ c.apart_count.ensures.count c.threads_end.ensures (omega (arith, has.3)) in
     some_place c.threads_end.result (omega (arith, there.0))
-
--- where thread `i` stands
-there : (c : goal.After-unwrap) → ThreadAt c.args.report.now c.args.i c.unwrap.result
-there c =
-    λ apart threads report lt.
-    let a = c.args in
-    report_thread a.report.now apart threads report c.apart_count.result a.i c.unwrap.result c.apart_count.ensures.count
-    (rw c.unwrap.ensures at c.threads_end.ensures) lt
 
 pub returns : goal.returns
 returns c =
     let has = c.requires in
     let a = c.args in
-    record { there = there c; room = thread_room a.report.now has.0 has.1 has.2 a.i c.unwrap.result has.3 (there c) }
+    let there : ThreadAt a.report.now a.i c.unwrap.result =
+    λ apart threads report lt.
+    report_thread a.report.now apart threads report c.apart_count.result a.i c.unwrap.result c.apart_count.ensures.count
+    (rw c.unwrap.ensures at c.threads_end.ensures) lt in
+    record { there = there; room = thread_room a.report.now has.0 has.1 has.2 a.i c.unwrap.result has.3 there }

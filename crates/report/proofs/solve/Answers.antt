@@ -3,8 +3,20 @@ use mathlib.Core.Path.{◌≡◌, ap, ◌∙◌}
 use Prim.Native.Nat.{ℕ}
 use native.Mathlib.Omega.{arith}
 use lib.ListN.{length, replicate}
+use Rattle.logs.proofs.Laws.{graph_episodes}
+use Rattle.logs.proofs.WellFormed.{passes_passed}
 use Rattle.report.specs.Report.{work_words}
 use Rattle.report.proofs.solve.Goals as goal
+
+pub prepare-requires : goal.prepare-requires
+prepare-requires g c =
+    let l = c.args.log in
+    let few = c.requires.0 in (
+      passes_passed l.words.now l.episodes l.to_words (omega arith) l.passes,
+      graph_episodes _ l.words.now l.episodes l.to_words l.passes,
+      few,
+      omega arith,
+    )
 
 pub returns-clause-cleared : goal.returns-clause-cleared
 returns-clause-cleared g c =

@@ -1,4 +1,5 @@
 use mathlib.Core.Path.{sym, ◌∙◌}
+use native.Mathlib.Omega.{arith}
 use Rattle.writing.proofs.Bundling.{bundling_none, bundling_same, bundling_fits, bundling_lent}
 use Rattle.writing.proofs.Chains.write_threads.Goals as goal
 use Rattle.writing.proofs.Chains.write_threads.Goals.{then-is_member, else-is_member}
@@ -8,7 +9,7 @@ loop-v-init c = bundling_none _ _ _ _
 
 pub write_thread-count-requires : goal.write_thread-count-requires
 write_thread-count-requires c = (
-  c.loop-v-test.true,
+  omega (arith, c.loop-v-test.true),
   bundling_fits c.loop-v.invariant c.loop-v-test.true (sym c.is_member.ensures ∙ c.if-is_member.true) c.requires,
 )
 

@@ -6,7 +6,7 @@ use Rattle.logs.proofs.Laws.{content_fits, graph_episodes}
 use Rattle.copying.specs.FairCopy.{linked_to}
 use Rattle.copying.proofs.Linked.{links_fewer}
 use Rattle.copying.proofs.Rows.{row_length, row_short, row_marks, row_written}
-use Rattle.copying.proofs.fn.write_copy.write_by_rows.Goals as goal
+use Rattle.copying.proofs.fn.write_passed.write_by_rows.Goals as goal
 
 pub write_links-requires : goal.write_links-requires
 write_links-requires c =
