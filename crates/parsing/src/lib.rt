@@ -1,7 +1,7 @@
 // A report's words taken apart: whether they are a whole report, and where its threads stand.
 #![tactic(auto)]
 
-ghost use Rattle.std.specs.Prelude.{◌≡◌, ◌<◌, ◌≤◌, ◌-◌, length, get_or, unwrap_or, IfSome};
+ghost use Rattle.std.specs.Prelude.{◌≡◌, ◌<◌, ◌≤◌, ◌+◌, ◌-◌, min, length, get_or, unwrap_or, IfSome};
 ghost use Rattle.logs.specs.Words.{number, kind_code};
 ghost use Rattle.parsing.specs.Whole.{HasThread};
 ghost use Rattle.parsing.specs.Parsing.{KindTest, apart_count, ThreadEnd, ThreadsEnd, WholeTest, ThreadAt, Room};
@@ -15,16 +15,22 @@ fn all_of_kind(words: &[u32], kind: Kind) -> bool
     words.iter().all(|w| kind.is_of(*w))
 }
 
-// How many apart words a report has: those of kind 5 behind the first word, up to the first of another kind.
-fn apart_count(report: &[u32]) -> usize
-    ensures count { result ≡ apart_count report.now }
+// How many apart words a report has: those of kind 5 behind the first word, up to the first of another kind. No more than one above `k` are looked for,
+// since a whole report has at most `k`, and other words may have any number.
+fn apart_count(report: &[u32], k: usize) -> usize
+    ensures count { result ≡ min (apart_count report.now) (k + 1) }
     ensures within { result ≤ length report.now - 1 }
 {
-    report
-        .iter()
-        .skip(1)
-        .take_while(|w| Kind::Apart.is_of(**w))
-        .count()
+    if report.is_empty() {
+        return 0;
+    }
+    let most = (report.len() - 1).min(k.saturating_add(1));
+    for (count, w) in report[1..=most].iter().enumerate() {
+        if !Kind::Apart.is_of(*w) {
+            return count;
+        }
+    }
+    most
 }
 
 // The place behind the thread that stands at `at`, if one does.
@@ -77,7 +83,7 @@ pub fn is_whole(report: &[u32]) -> bool
         return false;
     }
     let k = logs::number_of(*head);
-    let apart = apart_count(report);
+    let apart = apart_count(report, k);
     if k < apart {
         return false;
     }
@@ -96,5 +102,6 @@ pub fn thread_at(report: &[u32], i: usize) -> usize
     ensures there { ThreadAt report.now i result }
     ensures room { Room report.now result }
 {
-    threads_end(report, apart_count(report) + 1, i).unwrap()
+    let apart = apart_count(report, width(report));
+    threads_end(report, apart + 1, i).unwrap()
 }
