@@ -28,6 +28,11 @@ fn fill(bytes: &[u8], words: &mut [u32])
 {
     // The place of the bytes is computed: `zip` beside `iter_mut` leaves the checker without the fact that both are at one place.
     for (i, word) in words.iter_mut().enumerate() {
+        // Never so, by the contract: without this way out the loop would become a call of C's `memcpy`, and the archive asks a caller for `memset`
+        // alone.
+        if bytes.len() < 4 * i + 4 {
+            return;
+        }
         *word = word_at(bytes, 4 * i);
     }
 }
