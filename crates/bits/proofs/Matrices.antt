@@ -1,7 +1,6 @@
 -- A matrix that is copied word by word to where another stands behind it. The invariant: the first `i` words are copied, and none outside the other
 -- matrix has changed.
 use mathlib.Core.Path.{◌≡◌, ◌∙◌}
-use mathlib.Core.Logic.Dec
 use native.Mathlib.Decide.{ℕ_discrete}
 use mathlib.Core.List.{List}
 use Prim.Native.Nat.{ℕ, ◌+◌, ◌<◌, ◌≤◌}

@@ -1,18 +1,16 @@
 -- The pairs of items: those of the items of one episode, then episode by episode; and where each episode has one voice the ways, copied.
 use mathlib.Core.Path.{◌≡◌, sym, ap, ◌∙◌}
 use mathlib.Core.Logic.{◌≢◌}
-use mathlib.Core.List.{List, [], ◌++◌}
-use Prim.Native.Nat.{ℕ, ◌+◌, ◌-◌, ◌*◌, ◌≤◌, ◌<◌}
+use mathlib.Core.List.{List, []}
+use Prim.Native.Nat.{ℕ, ◌+◌, ◌*◌, ◌≤◌, ◌<◌}
 use native.Mathlib.Decide.{ℕ_discrete, dec_lt}
 use native.Mathlib.Omega.{arith}
 use borrow.Rule.Slice.PartMut.{put_mid}
-use lib.ListN.{length, get_or, take, drop, length-append, length-drop, get_or-append}
-use lib.Seq.{length-take-le, get_or-take, get_or-drop}
-use Rattle.std.proofs.lemmas.List.{get_or-append_right}
+use lib.ListN.{length}
 use Rattle.paths.specs.Graph.{Graph}
 use Rattle.paths.proofs.Items.{items_one, owner_one}
 use Rattle.bits.specs.Bits.{bit}
-use Rattle.bits.specs.Work.{ways_at, items_at, next_at, voices_at, matrix_words, Outside, MatrixCopied}
+use Rattle.bits.specs.Work.{ways_at, items_at, next_at, voices_at, Outside, MatrixCopied}
 use Rattle.bits.proofs.Parts.{put_length, put_before, put_behind, bit_put}
 use Rattle.bits.proofs.Frames.{outside_none, outside_then, outside_wider, bit_before, bit_behind, bit_moved, row_other}
 use Rattle.items.specs.Listed.{voices_in, start_in, owner_in, Listed, WaysBelow, PairsIn}

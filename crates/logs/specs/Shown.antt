@@ -1,5 +1,5 @@
 -- What is printed of a refusal, and of the numbers of words.
-use Rattle.std.specs.Prelude.{Bool, true, false, List, [], ◌++◌, flat_map, ℕ, eqb, codes, decimal}
+use Rattle.std.specs.Prelude.{true, false, List, [], ◌++◌, flat_map, ℕ, eqb, codes, decimal}
 use Rattle.logs.specs.Words.{kind, number}
 
 -- a refusal: its number and its place

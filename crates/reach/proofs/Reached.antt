@@ -1,12 +1,10 @@
 -- From the links of a log to its ways.
-use mathlib.Core.Path.{◌≡◌, sym, ap, ◌∙◌}
+use mathlib.Core.Path.{◌≡◌, ◌∙◌}
 use mathlib.Core.List.{List, ◌++◌}
-use Prim.Native.Nat.{ℕ, ◌+◌, ◌≤◌}
+use Prim.Native.Nat.{ℕ, ◌≤◌}
 use native.Mathlib.Omega.{arith}
-use lib.ListN.{length, get_or, drop, length-append, get_or-append}
-use lib.Seq.{get_or-append-add}
+use lib.ListN.{drop}
 use Rattle.std.specs.Array.{IsFirstChunk}
-use Rattle.std.proofs.lemmas.List.{get_or_past}
 use Rattle.paths.specs.Graph.{Graph, EndsBelow, Link}
 use Rattle.logs.specs.Log.{graph_of, PassesWith}
 use Rattle.logs.proofs.Laws.{graph_episodes, links_below}
