@@ -55,6 +55,12 @@ unfolding threads_words thread_words
 first_behind [] end = omega arith
 first_behind (t ∷ ts) end = omega arith
 
+-- each thread has words
+threads_count : (threads : List (List ℕ)) → length threads ≤ length (threads_words threads)
+unfolding threads_words thread_words
+threads_count [] = omega arith
+threads_count (t ∷ ts) = let rest = threads_count ts in omega (arith, rest, length-append (thread_words t) (threads_words ts))
+
 -- What stands where in a whole report.
 module _ (ws apart : List ℕ) (threads : List (List ℕ)) (report : IsReport ws apart threads) where
   report_words_lem : ws ≡ word 4 (length threads) ∷ behind_head apart threads (end_at apart threads)
@@ -92,6 +98,10 @@ module _ (ws apart : List ℕ) (threads : List (List ℕ)) (report : IsReport ws
   -- there is room for the head, the apart set and the end
   pub report_room : length apart + 2 ≤ length ws
   report_room = omega (arith, report_long)
+
+  -- there are as many words as threads, and more
+  pub report_wide : length threads ≤ length ws
+  report_wide = omega (arith, report_long, threads_count threads)
 
   -- the apart words end where the first thread or the end stands
   pub report_apart : apart_count ws ≡ length apart

@@ -83,6 +83,10 @@ pub fn is_whole(report: &[u32]) -> bool
         return false;
     }
     let k = logs::number_of(*head);
+    // Each thread has words, so that a width above their count is refused before any of them is looked at.
+    if report.len() < k {
+        return false;
+    }
     let apart = apart_count(report, k);
     if k < apart {
         return false;

@@ -7,7 +7,7 @@ use native.Mathlib.Omega.{arith}
 use lib.ListN.{length, get_or}
 use Rattle.std.proofs.lemmas.Bool.Decides.{nat_tests}
 use Rattle.logs.specs.Words.{number}
-use Rattle.parsing.proofs.Wholes.{report_head, report_apart, report_ends, report_last, report_room, whole_found, count_test, not_whole}
+use Rattle.parsing.proofs.Wholes.{report_head, report_apart, report_ends, report_last, report_room, report_wide, whole_found, count_test, not_whole}
 use Rattle.parsing.proofs.is_whole.Goals as goal
 
 pub returns-in_default : goal.returns-in_default
@@ -19,6 +19,11 @@ pub returns-then-not-is_of : goal.returns-then-not-is_of
 returns-then-not-is_of c =
     let ws = c.args.report.now in
     not_whole ws (λ apart threads report. grind (arith, nat_tests, (report_head ws apart threads report).0))
+
+pub returns-then-report-k : goal.returns-then-report-k
+returns-then-report-k c =
+    let ws = c.args.report.now in
+    not_whole ws (λ apart threads report. omega (arith, report_wide ws apart threads report, (report_head ws apart threads report).1))
 
 pub returns-then-k-apart : goal.returns-then-k-apart
 returns-then-k-apart c =
