@@ -114,14 +114,6 @@ pub fn join_from(v: &[u32], w: &mut [u32], row: usize)
     join(&mut w[row..row + 8], v);
 }
 
-// The same of an array: of a slice the compiler would test at each call of `join_row` whether both rows overlap.
-fn join_array(v: &[u32; 8], w: &mut [u32], row: usize)
-    requires { row + 8 ≤ length w.old }
-    ensures { RowGained v.now w.old w.new row }
-{
-    join(&mut w[row..row + 8], v);
-}
-
 // The row that starts at word `row`, by itself.
 pub fn row_at(w: &[u32], row: usize) -> [u32; 8]
     requires { row + 8 ≤ length w.now }
@@ -137,7 +129,7 @@ pub fn join_row(w: &mut [u32], to: usize, from: usize)
     requires { (to + 8 ≤ length w.old) × (from + 8 ≤ length w.old) }
     ensures { (base a k : ℕ) → to ≡ base + 8 * a → from ≡ base + 8 * k → RowJoined w.old w.new base a k }
 {
-    join_array(&row_at(w, from), w, to);
+    join_from(&row_at(w, from), w, to);
 }
 
 // Copies the row that starts at word `from` to the one that starts at word `to`.
